@@ -1,3 +1,9 @@
 pub mod Causes
 pub mod Files
 pub mod Sinks
+pub mod Decimal
+pub mod Key
+pub mod KeyTest
+pub mod KeyPart
+pub mod Memory
+pub mod Taking

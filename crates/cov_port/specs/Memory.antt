@@ -1,0 +1,70 @@
+-- Files and a sink in memory.
+use Rattle.std.specs.Prelude.{ℕ, ◌+◌, ◌-◌, ◌^◌, ◌||◌, ◌&&◌, ◌==◌, nat_lt, min, Bool, List, [], ◌∷◌, ◌++◌, length, None, Some, if◌then◌else◌}
+use Rattle.std.specs.List.{list_any}
+use Rattle.std.specs.Option.{option_map_or}
+use Rattle.std.specs.Str.{bytes_eq}
+use Rattle.cov_port.specs.Files.{Names, FileFaults, lacks}
+
+-- files in memory: what they hold, in order of storing, what is left of the open file, how often each call
+-- failed, how many bytes a read gives at most, the calls made and those that are to fail, and the room left
+pub record FilesInMemory : Type 0 where
+  pub files : List (List ℕ × List ℕ)
+  pub rest : List ℕ
+  pub faults : FileFaults
+  pub piece : ℕ
+  pub calls : ℕ
+  pub listed : List ℕ
+  pub stores_left : ℕ
+  pub bytes_left : ℕ
+
+-- a sink in memory: what was put, how often a put failed, and the same of pieces, calls and room
+pub record SinkInMemory : Type 0 where
+  pub written : List ℕ
+  pub faults : ℕ
+  pub piece : ℕ
+  pub calls : ℕ
+  pub listed : List ℕ
+  pub bytes_left : ℕ
+
+-- what a name holds: the bytes that were stored there last
+abbrev pub held_in : List (List ℕ × List ℕ) → Names
+held_in [] q = None
+held_in (f ∷ fs) q = option_map_or (λ bytes. Some bytes) (held_in fs q) (if bytes_eq q f.0 then Some f.1 else None)
+
+-- the number of the next call, from 1; it stays at its end
+abbrev pub next_call : ℕ → ℕ
+next_call calls = min (calls + 1) (2 ^ 64 - 1)
+
+-- whether the next call is one that is to fail
+abbrev pub is_listed : ℕ → List ℕ → Bool
+is_listed calls listed = list_any (λ call. call == next_call calls) listed
+
+-- whether opening the name fails
+abbrev pub open_fails : FilesInMemory → List ℕ → Bool
+open_fails memory name = is_listed memory.calls memory.listed || lacks (Some (held_in memory.files)) name
+
+-- whether a read fails
+abbrev pub read_fails : FilesInMemory → Bool
+read_fails memory = is_listed memory.calls memory.listed
+
+-- whether storing these bytes at the name fails
+abbrev pub store_fails : FilesInMemory → List ℕ → List ℕ → Bool
+store_fails memory name bytes = is_listed memory.calls memory.listed
+    || (nat_lt memory.stores_left 1 || nat_lt memory.bytes_left (length name + length bytes))
+
+-- the files with one more stored, which uses up room
+abbrev pub with_store : FilesInMemory → List ℕ → List ℕ → FilesInMemory
+with_store memory name bytes = record memory {
+  files = memory.files ++ (name, bytes) ∷ [];
+  calls = next_call memory.calls;
+  stores_left = memory.stores_left - 1;
+  bytes_left = memory.bytes_left - (length name + length bytes);
+}
+
+-- whether a put of the piece fails
+abbrev pub put_fails : SinkInMemory → List ℕ → Bool
+put_fails sink piece = is_listed sink.calls sink.listed || (nat_lt 0 (length piece) && nat_lt sink.bytes_left 1)
+
+-- how many bytes of the piece a put takes
+abbrev pub put_count : SinkInMemory → List ℕ → ℕ
+put_count sink piece = min sink.piece (min (length piece) sink.bytes_left)
