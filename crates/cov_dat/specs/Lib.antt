@@ -1,0 +1,9 @@
+pub mod Lines
+pub mod DataLine
+pub mod Reading
+pub mod Merging
+pub mod DataText
+pub mod Laws
+pub mod Seen
+pub mod Position
+pub mod FrontLaw
