@@ -1,2 +1,5 @@
 pub mod DecimalLemmas
 pub mod KeyLemmas
+pub mod SinkLemmas
+pub mod SpanLemmas
+pub mod HeldLemmas

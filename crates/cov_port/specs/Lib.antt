@@ -6,4 +6,5 @@ pub mod Key
 pub mod KeyTest
 pub mod KeyPart
 pub mod Memory
+pub mod Spans
 pub mod Taking

@@ -1,5 +1,5 @@
 -- Files and a sink in memory.
-use Rattle.std.specs.Prelude.{ℕ, ◌+◌, ◌-◌, ◌^◌, ◌||◌, ◌&&◌, ◌==◌, nat_lt, min, Bool, List, [], ◌∷◌, ◌++◌, length, None, Some, if◌then◌else◌}
+use Rattle.std.specs.Prelude.{ℕ, ◌+◌, ◌-◌, ◌^◌, ◌||◌, ◌&&◌, ◌==◌, nat_lt, min, Bool, List, [], ◌∷◌, ◌++◌, length, take, drop, None, Some, is_none, unwrap_or, if◌then◌else◌}
 use Rattle.std.specs.List.{list_any}
 use Rattle.std.specs.Option.{option_map_or}
 use Rattle.std.specs.Str.{bytes_eq}
@@ -52,6 +52,43 @@ abbrev pub store_fails : FilesInMemory → List ℕ → List ℕ → Bool
 store_fails memory name bytes = is_listed memory.calls memory.listed
     || (nat_lt memory.stores_left 1 || nat_lt memory.bytes_left (length name + length bytes))
 
+-- a number of faults with one more; it stays at its end
+abbrev pub one_more : ℕ → ℕ
+one_more faults = min (faults + 1) (2 ^ 64 - 1)
+
+-- the files with this one open
+abbrev pub with_open : FilesInMemory → List ℕ → FilesInMemory
+with_open memory name = record memory {
+  rest = unwrap_or (held_in memory.files name) [];
+  calls = next_call memory.calls;
+}
+
+-- the files with none open; an absent name is no fault
+abbrev pub with_failed_open : FilesInMemory → List ℕ → FilesInMemory
+with_failed_open memory name = record memory {
+  rest = [];
+  faults = record memory.faults { opens = if is_none (held_in memory.files name) then memory.faults.opens else one_more memory.faults.opens };
+  calls = next_call memory.calls;
+}
+
+-- how many bytes a read gives into so long a buffer
+abbrev pub read_count : FilesInMemory → ℕ → ℕ
+read_count memory len = min memory.piece (min len (length memory.rest))
+
+-- the files with so many bytes read
+abbrev pub with_read : FilesInMemory → ℕ → FilesInMemory
+with_read memory count = record memory {
+  rest = drop count memory.rest;
+  calls = next_call memory.calls;
+}
+
+-- the files after a read that failed
+abbrev pub with_failed_read : FilesInMemory → FilesInMemory
+with_failed_read memory = record memory {
+  faults = record memory.faults { reads = one_more memory.faults.reads };
+  calls = next_call memory.calls;
+}
+
 -- the files with one more stored, which uses up room
 abbrev pub with_store : FilesInMemory → List ℕ → List ℕ → FilesInMemory
 with_store memory name bytes = record memory {
@@ -61,6 +98,13 @@ with_store memory name bytes = record memory {
   bytes_left = memory.bytes_left - (length name + length bytes);
 }
 
+-- the files after a store that failed
+abbrev pub with_failed_store : FilesInMemory → FilesInMemory
+with_failed_store memory = record memory {
+  faults = record memory.faults { stores = one_more memory.faults.stores };
+  calls = next_call memory.calls;
+}
+
 -- whether a put of the piece fails
 abbrev pub put_fails : SinkInMemory → List ℕ → Bool
 put_fails sink piece = is_listed sink.calls sink.listed || (nat_lt 0 (length piece) && nat_lt sink.bytes_left 1)
@@ -68,3 +112,18 @@ put_fails sink piece = is_listed sink.calls sink.listed || (nat_lt 0 (length pie
 -- how many bytes of the piece a put takes
 abbrev pub put_count : SinkInMemory → List ℕ → ℕ
 put_count sink piece = min sink.piece (min (length piece) sink.bytes_left)
+
+-- the sink with first bytes of the piece put, which use up room
+abbrev pub with_put : SinkInMemory → List ℕ → SinkInMemory
+with_put sink piece = record sink {
+  written = sink.written ++ take (put_count sink piece) piece;
+  calls = next_call sink.calls;
+  bytes_left = sink.bytes_left - put_count sink piece;
+}
+
+-- the sink after a put that failed
+abbrev pub with_failed_put : SinkInMemory → SinkInMemory
+with_failed_put sink = record sink {
+  faults = one_more sink.faults;
+  calls = next_call sink.calls;
+}
