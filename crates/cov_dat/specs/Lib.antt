@@ -7,3 +7,5 @@ pub mod Laws
 pub mod Seen
 pub mod Position
 pub mod FrontLaw
+pub mod KeyTable
+pub mod SortedView

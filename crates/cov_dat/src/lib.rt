@@ -1,15 +1,24 @@
 //! Data files of coverage counts: their records, and what several files come to together.
 #![tactic(auto)]
 
+mod byte_key;
+mod data_text;
 mod fault;
 mod front_law;
+mod key_table;
+mod law;
 mod line;
+mod merge_fault;
+mod merged;
 mod read;
 mod record_list;
 mod text_reader;
 
 pub use fault::DataFault;
 pub use front_law::front_is_enough;
+pub use law::{adding_gives_the_sums, files_in_any_order, records_in_any_order};
+pub use merge_fault::MergeFault;
+pub use merged::Merged;
 pub use read::records;
 pub use record_list::{Record, RecordList};
 pub use text_reader::TextReader;

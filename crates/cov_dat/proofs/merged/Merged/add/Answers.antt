@@ -1,0 +1,81 @@
+use Rattle.std.proofs.Common.{rules, ◌≡◌, ℕ, ◌+◌, ◌^◌, ◌<◌, List, ◌++◌, ◌∷◌, [], length, true, false, is_some, Option, None, Some, sym, ap, subst, ◌∙◌, arith}
+use Rattle.std.specs.List.{AllByRecursion}
+use Rattle.cov_port.specs.Key.{IsKey}
+use Rattle.cov_dat.specs.Merging.{Counts, added, key_bytes, limit_passed, number_of}
+use Rattle.cov_dat.specs.KeyTable.{has_key, limit_at, raised_at}
+use Rattle.cov_dat.proofs.FaultLemmas.{limit-of_limit, limit-of_memory, limit-of_ok}
+use Rattle.cov_dat.proofs.MergingLemmas.{all-added, appended-is-added, key_bytes-present, key_bytes-pushed, limit_passed-counted, limit_passed-present, new-from_look_up, number_of-new, raised-is-added}
+use Rattle.cov_dat.proofs.merged.Merged.add.Goals as goal
+
+-- where the key stands
+sought-is : (c : goal.After-raise) → c.refill.new.self ≡ c.args.key.now
+sought-is c = search rules
+
+stands : (c : goal.After-raise) → has_key c.self.inside.counts.entries c.args.key.now ≡ true
+stands c = subst (λ (k : List ℕ). has_key c.self.inside.counts.entries k ≡ true) (sought-is c) (sym c.get_index_of.ensures.found ∙ ap is_some c.in-Some.is)
+
+raised-is : (c : goal.After-raise) → c.raise.new.counts.entries ≡ added c.self.inside.counts.entries c.args.key.now c.args.count
+raised-is c = c.raise.ensures ∙ raised-is-added c.self.inside.counts.entries c.refill.new.self c.args.key.now c.in-Some.number c.args.count (sought-is c) (sym c.get_index_of.ensures.index ∙ c.in-Some.is) (stands c)
+
+pub invariant_of-self-in-Some : goal.invariant_of-self-in-Some
+invariant_of-self-in-Some c =
+    let es = c.self.inside.counts.entries in
+    let key = c.args.key.now in
+    rw (raised-is c)
+    (limit_passed-present es key c.args.count (stands c) ∙ c.self.invariant.0
+    , c.self.invariant.1 ∙ sym (key_bytes-present es key c.args.count (stands c))
+    , all-added IsKey es key c.args.count c.self.invariant.2 c.requires)
+
+pub returns-in-Some-clause-ok : goal.returns-in-Some-clause-ok
+returns-in-Some-clause-ok c = rw (← c.self.view_is) (raised-is c)
+
+pub returns-in-Some-clause-limit : goal.returns-in-Some-clause-limit
+returns-in-Some-clause-limit c = rw (← c.self.view_is)
+    (limit-of_ok c.in-Some.number _ (limit_passed-present c.self.inside.counts.entries c.args.key.now c.args.count (stands c) ∙ c.self.invariant.0))
+
+-- where the key is new and would pass a limit
+pub returns-in-Some-limit_at-clause-limit : goal.returns-in-Some-limit_at-clause-limit
+returns-in-Some-limit_at-clause-limit c =
+    let es = c.self.inside.counts.entries in
+    let key = c.args.key.now in
+    let new = new-from_look_up es c.refill.new.self key c.get_index_of.result (search rules) c.get_index_of.ensures.found c.in-None.is in
+    let passed = limit_passed-counted es key c.args.count c.len-number.result c.self.inside.bytes_held new c.len-number.ensures.len c.self.invariant.1 in
+    rw (← c.self.view_is) (limit-of_limit c.in-Some-limit_at.name _ (passed ∙ sym c.limit_at.ensures ∙ c.in-Some-limit_at.is))
+
+-- where the key is new and there's no memory for it
+pub returns-in_err-append-in-None-clause-limit : goal.returns-in_err-append-in-None-clause-limit
+returns-in_err-append-in-None-clause-limit c =
+    let es = c.self.inside.counts.entries in
+    let key = c.args.key.now in
+    let new = new-from_look_up es c.refill.new.self key c.get_index_of.result (search rules) c.get_index_of.ensures.found c.in-None.is in
+    let passed = limit_passed-counted es key c.args.count c.len-number.result c.self.inside.bytes_held new c.len-number.ensures.len c.self.invariant.1 in
+    rw (← c.self.view_is) (limit-of_memory c.from_residual.result _ (passed ∙ sym c.limit_at.ensures ∙ c.in_default.is) c.from_residual.ensures.1)
+
+-- where the key is new and stands afterwards
+is-new : (c : goal.After-self-1) → has_key c.self.inside.counts.entries c.args.key.now ≡ false
+is-new c = new-from_look_up c.self.inside.counts.entries c.refill.new.self c.args.key.now c.get_index_of.result (search rules) c.get_index_of.ensures.found c.in-None.is
+
+appended-is : (c : goal.After-self-1) → c.append.new.counts.entries ≡ added c.self.inside.counts.entries c.args.key.now c.args.count
+appended-is c = c.in_ok-append-in-None.ensures.ok ∙ appended-is-added c.self.inside.counts.entries c.args.key.now c.args.count (is-new c) (search rules)
+
+none-passed : (c : goal.After-self-1) → limit_passed (added c.self.inside.counts.entries c.args.key.now c.args.count) ≡ None
+none-passed c = limit_passed-counted c.self.inside.counts.entries c.args.key.now c.args.count c.len-number.result c.self.inside.bytes_held (is-new c) c.len-number.ensures.len c.self.invariant.1
+    ∙ sym c.limit_at.ensures ∙ c.in_default.is
+
+pub invariant_of-self-in-None : goal.invariant_of-self-in-None
+invariant_of-self-in-None c =
+    let es = c.self.inside.counts.entries in
+    let key = c.args.key.now in
+    let bytes : key_bytes c.append.new.counts.entries ≡ key_bytes es + length key = ap key_bytes c.in_ok-append-in-None.ensures.ok ∙ key_bytes-pushed es key c.args.count in
+    (ap limit_passed (appended-is c) ∙ none-passed c
+    , ap (λ (n : ℕ). n + length key) c.self.invariant.1 ∙ sym bytes
+    , subst (λ (xs : Counts). AllByRecursion (λ e. IsKey e.0) xs) (sym (appended-is c)) (all-added IsKey es key c.args.count c.self.invariant.2 c.requires))
+
+pub returns-in_ok-append-in-None-clause-ok : goal.returns-in_ok-append-in-None-clause-ok
+returns-in_ok-append-in-None-clause-ok c = rw (← c.self.view_is) (appended-is c)
+
+pub returns-in_ok-append-in-None-clause-number : goal.returns-in_ok-append-in-None-clause-number
+returns-in_ok-append-in-None-clause-number c = rw (← c.self.view_is) (c.len-number.ensures.len ∙ sym (number_of-new c.self.inside.counts.entries c.args.key.now (is-new c)))
+
+pub returns-in_ok-append-in-None-clause-limit : goal.returns-in_ok-append-in-None-clause-limit
+returns-in_ok-append-in-None-clause-limit c = rw (← c.self.view_is) (limit-of_ok c.len-number.result _ (none-passed c))
