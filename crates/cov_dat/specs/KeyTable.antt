@@ -5,8 +5,6 @@ use Rattle.std.specs.Map.{lookup}
 use Rattle.cov_port.specs.declared.limit.LimitName.{LimitName}
 use Rattle.cov_port.specs.declared.limit.LimitName.TheVariants.{DataPoints, TotalKeyBytes}
 use Rattle.cov_dat.specs.Merging.{Counts, saturated}
-use Rattle.cov_dat.specs.declared.merge_fault.MergeFault.{MergeFault}
-use Rattle.cov_dat.specs.declared.merge_fault.MergeFault.TheVariants.{Limit, NoMemory}
 
 -- whether the key stands among the counts
 abbrev pub has_key : Counts → List ℕ → Bool
@@ -21,8 +19,3 @@ abbrev pub raised_at : Counts → ℕ → ℕ → Counts
 raised_at [] number count = []
 raised_at (e ∷ es) zero count = (e.0, saturated (e.1 + count)) ∷ es
 raised_at (e ∷ es) (suc number) count = e ∷ raised_at es number count
-
--- why nothing is added where there's no memory: a limit that would be passed comes before memory
-abbrev pub refused : Option LimitName → MergeFault
-refused None = NoMemory
-refused (Some name) = Limit name

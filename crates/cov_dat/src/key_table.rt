@@ -1,23 +1,25 @@
-ghost use Rattle.std.specs.Prelude.{◌≡◌, ◌≤◌, ◌<◌, ◌+◌, ◌∷◌, ◌++◌, [], length, OnOk, OnErr, IsErrOf, Some, None, false};
-ghost use Rattle.cov_dat.specs.Merging.{added, limit_passed, key_bytes as bytes_of_keys, saturated};
-ghost use Rattle.cov_dat.specs.KeyTable.{has_key, limit_at, raised_at, refused};
+ghost use Rattle.std.specs.Prelude.{◌≡◌, ◌≤◌, ◌<◌, ◌+◌, ◌∷◌, ◌++◌, [], length, OnOk, OnErr, false};
+ghost use Rattle.cov_dat.specs.Merging.{saturated};
+ghost use Rattle.cov_dat.specs.KeyTable.{has_key, limit_at, raised_at};
 
 use crate::byte_key::Key;
-use crate::merge_fault::MergeFault;
 use cov_port::LimitName;
 use indexmap::IndexMap;
 use std::alloc::{AllocError, Global};
 
-const MAX_KEYS: usize = 4194304;
-const MAX_KEY_BYTES: usize = 1073741824;
+/// The greatest number of keys.
+const MOST_KEYS: usize = 4_194_304;
+
+/// The greatest number of bytes of all keys together.
+const MOST_KEY_BYTES: usize = 1_073_741_824;
 
 /// The limit that so many keys with so many bytes pass, if they pass one.
 pub(crate) fn limit_at(keys: usize, bytes: usize) -> Option<LimitName>
     ensures { result ≡ limit_at keys bytes }
 {
-    if keys > MAX_KEYS {
+    if keys > MOST_KEYS {
         Some(LimitName::DataPoints)
-    } else if bytes > MAX_KEY_BYTES {
+    } else if bytes > MOST_KEY_BYTES {
         Some(LimitName::TotalKeyBytes)
     } else {
         None
@@ -52,30 +54,4 @@ pub(crate) fn append(
     let key = Key::from_slice(alloc, key)?;
     counts.insert(key, count)?;
     Ok(())
-}
-
-fn stands(counts: &IndexMap<Key, u64>, key: &[u8]) -> bool
-    ensures { result ≡ has_key counts.now.entries key.now }
-{
-    for stored in counts.keys() {
-        if key == stored.as_slice() {
-            return true;
-        }
-    }
-    false
-}
-
-/// Why a key can't be looked up for want of memory: a limit that it would pass comes before memory.
-pub(crate) fn refusal(counts: &IndexMap<Key, u64>, key_bytes: usize, key: &[u8], count: u64) -> MergeFault
-    requires within { limit_at (length counts.now.entries) key_bytes ≡ None }
-    requires bytes { key_bytes ≡ bytes_of_keys counts.now.entries }
-    ensures { result ≡ refused (limit_passed (added counts.now.entries key.now count)) }
-{
-    if stands(counts, key) {
-        return MergeFault::NoMemory;
-    }
-    match limit_at(counts.len() + 1, key_bytes + key.len()) {
-        Some(name) => MergeFault::Limit(name),
-        None => MergeFault::NoMemory,
-    }
 }

@@ -1,4 +1,4 @@
-ghost use Rattle.std.specs.Prelude.{◌≡◌, ◌≤◌, ◌<◌, ◌+◌, ◌∷◌, length, IfOk, IfSome};
+ghost use Rattle.std.specs.Prelude.{◌≡◌, ◌≤◌, ◌<◌, ◌+◌, ◌∷◌, length, IfOk, IfSome, IsErrOf};
 ghost use Rattle.cov_port.specs.Key.{IsKey};
 ghost use Rattle.cov_dat.specs.Lines.{lines_of};
 ghost use Rattle.cov_dat.specs.DataLine.{at_last_quote, bytes_of, count_after, is_skipped, says, says_record, says_within};
@@ -63,6 +63,7 @@ pub(crate) fn read_line(
 ) -> Result<Option<(&[u8], u64)>, DataFault>
     ensures says { seen_line result ≡ says_within bytes number (line.now, ended) }
     ensures key { IfOk result (λ said. IfSome said (λ r. IsKey r.0.now)) }
+    ensures no_failure { IsErrOf result DataFault.Failed → ⊥ }
 {
     if bytes > MOST_BYTES {
         return Err(DataFault::Limit(LimitName::DataBytes));
@@ -97,6 +98,7 @@ fn is_skipped(line: &[u8]) -> bool
 fn read_record(number: u64, line: &[u8]) -> Result<Option<(&[u8], u64)>, DataFault>
     ensures says { seen_line result ≡ says_record number line.now }
     ensures key { IfOk result (λ said. IfSome said (λ r. IsKey r.0.now)) }
+    ensures no_failure { IsErrOf result DataFault.Failed → ⊥ }
 {
     if !line.starts_with(b"C '") {
         return Err(DataFault::BadRecord(number));

@@ -1,4 +1,4 @@
-ghost use Rattle.std.specs.Prelude.{◌≡◌, ◌<◌, ◌↔◌, [], length, map, slice_get, IfOk, OnOk, OnErr, IsErrOf, Some, None};
+ghost use Rattle.std.specs.Prelude.{◌≡◌, ◌<◌, [], length, map, slice_get, IfOk, OnOk, OnErr, IsErrOf, Some, None};
 ghost use Rattle.std.specs.List.{AllByRecursion, IsDistinct};
 ghost use Rattle.std.specs.Str.{bytes_eq};
 ghost use Rattle.cov_port.specs.Key.{IsKey};
@@ -9,7 +9,7 @@ ghost use Rattle.cov_dat.specs.declared.merge_fault.MergeFault.TheVariants.{Limi
 
 use crate::byte_key::Key;
 use crate::data_text::{sorted, written};
-use crate::key_table::{append, limit_at, raise, refusal};
+use crate::key_table::{append, limit_at, raise};
 use crate::merge_fault::MergeFault;
 use cov_port::{ByteText, NoMemory};
 use indexmap::IndexMap;
@@ -55,17 +55,17 @@ impl Merged {
 
     /// Adds a count to a key's sum, and gives the key's number. The sum stays at 2^64 - 1 once it is there.
     ///
+    /// `Limit` comes where the key would be one too many, or else where its bytes would be too many.
     /// A key that stands already needs no memory, except where it is longer than each key before it.
     pub fn add(&mut self, key: &[u8], count: u64) -> Result<u32, MergeFault>
         requires { IsKey key.now }
         ensures ok { OnOk result (self.new ≡ added self.old key.now count) }
         ensures number { IfOk result (λ k. k ≡ number_of self.old key.now) }
         ensures err { OnErr result (self.new ≡ self.old) }
-        ensures limit { (name : LimitName) → IsErrOf result (MergeFault.Limit name) ↔ (limit_passed (added self.old key.now count) ≡ Some name) }
+        ensures limit { (name : LimitName) → IsErrOf result (MergeFault.Limit name) → limit_passed (added self.old key.now count) ≡ Some name }
+        ensures within { OnOk result (limit_passed (added self.old key.now count) ≡ None) }
     {
-        if self.sought.refill(key).is_err() {
-            return Err(refusal(&self.counts, self.bytes_held, key, count));
-        }
+        self.sought.refill(key)?;
         match self.counts.get_index_of(&self.sought) {
             Some(number) => {
                 raise(&mut self.counts, number, count);

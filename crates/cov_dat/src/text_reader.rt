@@ -1,4 +1,4 @@
-ghost use Rattle.std.specs.Prelude.{◌≡◌, ◌≤◌, ◌<◌, ◌+◌, length, IfOk, IfErr, IfSome, IfNone, OnErr};
+ghost use Rattle.std.specs.Prelude.{◌≡◌, ◌≤◌, ◌<◌, ◌+◌, length, IfOk, IfErr, IfSome, IfNone, IsErrOf, OnErr};
 ghost use Rattle.cov_port.specs.Key.{IsKey};
 ghost use Rattle.cov_dat.specs.Reading.{nothing_read, only_fault, reading, with_record};
 
@@ -49,6 +49,7 @@ impl<'a> TextReader<'a> {
         ensures end { IfOk result (λ next. IfNone next (self.old ≡ nothing_read)) }
         ensures fault { IfErr result (λ fault. self.old ≡ only_fault fault) }
         ensures stays { OnErr result (self.new ≡ self.old) }
+        ensures no_failure { IsErrOf result DataFault.Failed → ⊥ }
     {
         'lines: while !self.rest.is_empty() {
             let cut = cut_line(self.rest);

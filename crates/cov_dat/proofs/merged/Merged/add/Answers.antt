@@ -3,7 +3,7 @@ use Rattle.std.specs.List.{AllByRecursion}
 use Rattle.cov_port.specs.Key.{IsKey}
 use Rattle.cov_dat.specs.Merging.{Counts, added, key_bytes, limit_passed, number_of}
 use Rattle.cov_dat.specs.KeyTable.{has_key, limit_at, raised_at}
-use Rattle.cov_dat.proofs.FaultLemmas.{limit-of_limit, limit-of_memory, limit-of_ok}
+use Rattle.cov_dat.proofs.FaultLemmas.{limit-of_limit}
 use Rattle.cov_dat.proofs.MergingLemmas.{all-added, appended-is-added, key_bytes-present, key_bytes-pushed, limit_passed-counted, limit_passed-present, new-from_look_up, number_of-new, raised-is-added}
 use Rattle.cov_dat.proofs.merged.Merged.add.Goals as goal
 
@@ -29,9 +29,8 @@ invariant_of-self-in-Some c =
 pub returns-in-Some-clause-ok : goal.returns-in-Some-clause-ok
 returns-in-Some-clause-ok c = rw (← c.self.view_is) (raised-is c)
 
-pub returns-in-Some-clause-limit : goal.returns-in-Some-clause-limit
-returns-in-Some-clause-limit c = rw (← c.self.view_is)
-    (limit-of_ok c.in-Some.number _ (limit_passed-present c.self.inside.counts.entries c.args.key.now c.args.count (stands c) ∙ c.self.invariant.0))
+pub returns-in-Some-clause-within : goal.returns-in-Some-clause-within
+returns-in-Some-clause-within c = rw (← c.self.view_is) (limit_passed-present c.self.inside.counts.entries c.args.key.now c.args.count (stands c) ∙ c.self.invariant.0)
 
 -- where the key is new and would pass a limit
 pub returns-in-Some-limit_at-clause-limit : goal.returns-in-Some-limit_at-clause-limit
@@ -41,15 +40,6 @@ returns-in-Some-limit_at-clause-limit c =
     let new = new-from_look_up es c.refill.new.self key c.get_index_of.result (search rules) c.get_index_of.ensures.found c.in-None.is in
     let passed = limit_passed-counted es key c.args.count c.len-number.result c.self.inside.bytes_held new c.len-number.ensures.len c.self.invariant.1 in
     rw (← c.self.view_is) (limit-of_limit c.in-Some-limit_at.name _ (passed ∙ sym c.limit_at.ensures ∙ c.in-Some-limit_at.is))
-
--- where the key is new and there's no memory for it
-pub returns-in_err-append-in-None-clause-limit : goal.returns-in_err-append-in-None-clause-limit
-returns-in_err-append-in-None-clause-limit c =
-    let es = c.self.inside.counts.entries in
-    let key = c.args.key.now in
-    let new = new-from_look_up es c.refill.new.self key c.get_index_of.result (search rules) c.get_index_of.ensures.found c.in-None.is in
-    let passed = limit_passed-counted es key c.args.count c.len-number.result c.self.inside.bytes_held new c.len-number.ensures.len c.self.invariant.1 in
-    rw (← c.self.view_is) (limit-of_memory c.from_residual.result _ (passed ∙ sym c.limit_at.ensures ∙ c.in_default.is) c.from_residual.ensures.1)
 
 -- where the key is new and stands afterwards
 is-new : (c : goal.After-self-1) → has_key c.self.inside.counts.entries c.args.key.now ≡ false
@@ -77,5 +67,5 @@ returns-in_ok-append-in-None-clause-ok c = rw (← c.self.view_is) (appended-is 
 pub returns-in_ok-append-in-None-clause-number : goal.returns-in_ok-append-in-None-clause-number
 returns-in_ok-append-in-None-clause-number c = rw (← c.self.view_is) (c.len-number.ensures.len ∙ sym (number_of-new c.self.inside.counts.entries c.args.key.now (is-new c)))
 
-pub returns-in_ok-append-in-None-clause-limit : goal.returns-in_ok-append-in-None-clause-limit
-returns-in_ok-append-in-None-clause-limit c = rw (← c.self.view_is) (limit-of_ok c.len-number.result _ (none-passed c))
+pub returns-in_ok-append-in-None-clause-within : goal.returns-in_ok-append-in-None-clause-within
+returns-in_ok-append-in-None-clause-within c = rw (← c.self.view_is) (none-passed c)

@@ -1,0 +1,2 @@
+pub mod ContinuingLemmas
+pub mod EndsLemmas

@@ -1,0 +1,23 @@
+use Rattle.std.proofs.Common.{◌≡◌, sym, ap, ◌∙◌, Ok, Err}
+use Rattle.std.proofs.lemmas.Result.{on_ok_weaker, IfErr-weaker}
+use Rattle.cov_dat.specs.Reading.{reading}
+use Rattle.cov_program.specs.Answer.{arrivals_of}
+use Rattle.cov_program.specs.Continuing.{continued, file_outcome, Refuses}
+use Rattle.cov_program.specs.Ending.{Unless}
+use Rattle.cov_program.specs.declared.status.Status.TheVariants.{Fault}
+use Rattle.cov_program.proofs.ContinuingLemmas.{file_outcome-taken, if_err-but, refuses-taken}
+use Rattle.cov_program.proofs.cover.add_file.Goals as goal
+
+pub returns-in-Ok-clause-ok : goal.returns-in-Ok-clause-ok
+returns-in-Ok-clause-ok g c = on_ok_weaker c.add_text.result
+    (file_outcome-taken (g.F.Files.held c.args.files.now) c.args.name.now c.in-Ok.text c.args.merged.now (Ok c.add_text.new.merged) c.front_is_enough.ensures c.in-Ok.ensures.ok)
+    (rw c.as_slice.ensures at c.add_text.ensures.ok)
+
+pub returns-in-Ok-clause-err : goal.returns-in-Ok-clause-err
+returns-in-Ok-clause-err g c =
+    let told = file_outcome (g.F.Files.held c.args.files.now) c.args.merged.now c.args.name.now in
+    IfErr-weaker c.add_text.result
+    (λ status. Unless status (continued c.args.merged.now (arrivals_of (reading c.in-Ok.text)) ≡ Err status) × (status ≡ Fault → ⊥))
+    (Refuses told (g.F.Files.faults c.args.files.now) (g.F.Files.faults c.take_file.new.files))
+    (λ status is. refuses-taken (g.F.Files.held c.args.files.now) c.args.name.now c.in-Ok.text c.args.merged.now status _ _ c.front_is_enough.ensures c.in-Ok.ensures.ok c.in-Ok.ensures.ok_quiet is.1 is.0)
+    (if_err-but c.add_text.result _ (rw c.as_slice.ensures at c.add_text.ensures.err) c.add_text.ensures.no_fault)
