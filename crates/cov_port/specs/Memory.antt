@@ -26,6 +26,14 @@ pub record SinkInMemory : Type 0 where
   pub listed : List ℕ
   pub bytes_left : ℕ
 
+-- no files, no call made or listed, and no room
+abbrev pub no_files : ℕ → FilesInMemory
+no_files piece = record { files = []; rest = []; faults = record { opens = 0; reads = 0; stores = 0 }; piece = piece; calls = 0; listed = []; stores_left = 0; bytes_left = 0 }
+
+-- nothing put, no call made or listed, and no room
+abbrev pub empty_sink : ℕ → SinkInMemory
+empty_sink piece = record { written = []; faults = 0; piece = piece; calls = 0; listed = []; bytes_left = 0 }
+
 -- what a name holds: the bytes that were stored there last
 abbrev pub held_in : List (List ℕ × List ℕ) → Names
 held_in [] q = None

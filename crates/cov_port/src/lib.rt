@@ -21,6 +21,8 @@ mod shared;
 mod sink;
 mod span;
 mod take;
+#[cfg(test)]
+mod tests;
 
 pub use byte_text::ByteText;
 pub use dec::read_dec;

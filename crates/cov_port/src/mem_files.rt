@@ -3,7 +3,7 @@ ghost use Rattle.std.specs.Option.{option_copied};
 ghost use Rattle.std.specs.Result.{is_err};
 ghost use Rattle.cov_port.specs.Causes.{HasCause};
 ghost use Rattle.cov_port.specs.Files.{HasOpenCause, ReadTakes, Stores, StoresPart, lacks};
-ghost use Rattle.cov_port.specs.Memory.{FilesInMemory, held_in, open_fails, read_count, read_fails, store_fails, with_failed_open, with_failed_read, with_failed_store, with_open, with_read, with_store};
+ghost use Rattle.cov_port.specs.Memory.{FilesInMemory, held_in, no_files, open_fails, read_count, read_fails, store_fails, with_failed_open, with_failed_read, with_failed_store, with_open, with_read, with_store};
 
 use crate::file_log::{append_file, find_file, reserve_room};
 use crate::files::{FileFault, Files};
@@ -40,16 +40,30 @@ impl Model for MemFiles {
 
     ghost Value = { FilesInMemory };
 
-    ghost view = { λ memory. record { files = files_in memory.log.items memory.spans.items; rest = slice_range memory.log.items memory.at memory.end; faults = record { opens = memory.opens; reads = memory.reads; stores = memory.stores }; piece = memory.piece; calls = memory.calls; listed = memory.listed.items; stores_left = memory.stores_left; bytes_left = memory.bytes_left } };
+    ghost view = { λ memory. record {
+      files = files_in memory.log.items memory.spans.items;
+      rest = slice_range memory.log.items memory.at memory.end;
+      faults = record { opens = memory.opens; reads = memory.reads; stores = memory.stores };
+      piece = memory.piece;
+      calls = memory.calls;
+      listed = memory.listed.items;
+      stores_left = memory.stores_left;
+      bytes_left = memory.bytes_left;
+    } };
 
-    ghost invariant = { λ memory. (1 ≤ memory.piece) × (are_within (length memory.log.items) memory.spans.items ≡ true) × (memory.at ≤ memory.end) × (memory.end ≤ length memory.log.items) × (vec_len memory.log + memory.bytes_left ≤ vec_capacity memory.log) × (vec_len memory.spans + memory.stores_left ≤ vec_capacity memory.spans) };
+    ghost invariant = { λ memory. (1 ≤ memory.piece)
+        × (are_within (length memory.log.items) memory.spans.items ≡ true)
+        × (memory.at ≤ memory.end)
+        × (memory.end ≤ length memory.log.items)
+        × (vec_len memory.log + memory.bytes_left ≤ vec_capacity memory.log)
+        × (vec_len memory.spans + memory.stores_left ≤ vec_capacity memory.spans) };
 }
 
 impl MemFiles {
     /// No files and no room. A read gives at most `piece` bytes. It takes no memory.
     pub fn new(alloc: Global, piece: u32) -> MemFiles
         requires { 1 ≤ piece }
-        ensures { result ≡ record { files = []; rest = []; faults = record { opens = 0; reads = 0; stores = 0 }; piece = piece; calls = 0; listed = []; stores_left = 0; bytes_left = 0 } }
+        ensures { result ≡ no_files piece }
     {
         MemFiles {
             log: Vec::new(alloc),
@@ -208,12 +222,13 @@ impl Files for MemFiles {
         ensures err { OnErr result (self.new ≡ with_failed_store self.old) }
     {
         let fails = count_call(&mut self.calls, self.listed.as_slice());
+        let name = name.as_bytes();
         let needed = name.len() + bytes.len();
         if fails || lacks_room(self.stores_left, self.bytes_left, needed) {
             self.stores = self.stores.saturating_add(1);
             return Err(FileFault::Failed);
         }
-        append_file(&mut self.log, &mut self.spans, name.as_bytes(), bytes);
+        append_file(&mut self.log, &mut self.spans, name, bytes);
         self.stores_left -= 1;
         self.bytes_left -= needed;
         Ok(())

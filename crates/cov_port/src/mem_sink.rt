@@ -1,7 +1,7 @@
 ghost use Rattle.std.specs.Prelude.{◌≡◌, ◌≤◌, ◌&&◌, nat_lt, ◌<◌, ◌+◌, ◌++◌, ◌∷◌, [], Some, length, OnOk, OnErr, IfOk};
 ghost use Rattle.std.specs.Result.{is_err};
 ghost use Rattle.cov_port.specs.Causes.{Both, HasCause};
-ghost use Rattle.cov_port.specs.Memory.{SinkInMemory, put_count, put_fails, with_failed_put, with_put};
+ghost use Rattle.cov_port.specs.Memory.{empty_sink, put_count, put_fails, with_failed_put, with_put};
 ghost use Rattle.cov_port.specs.Sinks.{Puts, PutsPart};
 
 use crate::memory::{append_within, count_call};
@@ -28,16 +28,24 @@ impl Model for MemSink {
 
     ghost Value = { SinkInMemory };
 
-    ghost view = { λ sink. record { written = sink.written.items; faults = sink.faults; piece = sink.piece; calls = sink.calls; listed = sink.listed.items; bytes_left = sink.bytes_left } };
+    ghost view = { λ sink. record {
+      written = sink.written.items;
+      faults = sink.faults;
+      piece = sink.piece;
+      calls = sink.calls;
+      listed = sink.listed.items;
+      bytes_left = sink.bytes_left;
+    } };
 
-    ghost invariant = { λ sink. (1 ≤ sink.piece) × (vec_len sink.written + sink.bytes_left ≤ vec_capacity sink.written) };
+    ghost invariant = { λ sink. (1 ≤ sink.piece)
+        × (vec_len sink.written + sink.bytes_left ≤ vec_capacity sink.written) };
 }
 
 impl MemSink {
     /// An empty sink without room, of which a put takes at most `piece` bytes. It takes no memory.
     pub fn new(alloc: Global, piece: u32) -> MemSink
         requires { 1 ≤ piece }
-        ensures { result ≡ record { written = []; faults = 0; piece = piece; calls = 0; listed = []; bytes_left = 0 } }
+        ensures { result ≡ empty_sink piece }
     {
         MemSink {
             written: Vec::new(alloc),

@@ -2,9 +2,11 @@
 #![tactic(auto)]
 
 mod cover;
+mod launch;
 mod program;
 mod status;
 mod words;
 
+pub use launch::run_program;
 pub use program::vcov;
 pub use status::Status;

@@ -10,6 +10,6 @@ returns-clause-stored c = λ q.
     let bytes = c.args.bytes.now in
     let stored : files_in c.append_file.new.log.items c.append_file.new.spans.items ≡ c.args.self.now.files ++ (name, bytes) ∷ [] =
     c.append_file.ensures.files
-    ∙ (ap (λ (fs : List (List ℕ × List ℕ)). fs ++ (c.as_bytes.result.now, bytes) ∷ []) (ap (λ (m : FilesInMemory). m.files) c.self.view_is)
-    ∙ ap (λ (n : List ℕ). c.args.self.now.files ++ (n, bytes) ∷ []) c.as_bytes.ensures.value) in
+    ∙ (ap (λ (fs : List (List ℕ × List ℕ)). fs ++ (c.as_bytes-name.result.now, bytes) ∷ []) (ap (λ (m : FilesInMemory). m.files) c.self.view_is)
+    ∙ ap (λ (n : List ℕ). c.args.self.now.files ++ (n, bytes) ∷ []) c.as_bytes-name.ensures.value) in
     ap (λ (fs : List (List ℕ × List ℕ)). held_in fs q) stored ∙ held_push c.args.self.now.files name bytes q

@@ -1,0 +1,48 @@
+use crate::program::vcov;
+use crate::status::Status;
+use cov_port::{RealFiles, RealSink, put_all};
+use std::alloc::Global;
+use std::env;
+use std::env::Env;
+use std::io::Write;
+use std::rt;
+use std::thread::Threads;
+
+/// Runs the program on the words of the command line, the files of the system and these two streams.
+///
+/// A command line that isn't UTF-8 is one of bad words. What it leaves is what `vcov` leaves; files and
+/// streams of the system tell no contents, so nothing more is claimed of them.
+pub fn run_program<R, O, E>(rt: &R, out: O, err: E) -> Status
+where
+    R: Threads + Sync + Env + AllocGlobal + rt::Files,
+    O: Write + Drop,
+    E: Write + Drop,
+{
+    let alloc = rt.alloc();
+    let mut err = RealSink::new(err);
+    match given_words(rt, alloc) {
+        Ok(words) => {
+            let mut files = RealFiles::new(rt);
+            let mut out = RealSink::new(out);
+            vcov(rt, alloc, &words, &mut files, &mut out, &mut err)
+        }
+        Err(status) => {
+            let _ = put_all(&mut err, status.line());
+            status
+        }
+    }
+}
+
+/// The words after the program's name.
+fn given_words(rt: &(impl Env + AllocGlobal), alloc: Global) -> Result<Vec<String>, Status> {
+    let mut words = Vec::new(alloc);
+    let Ok(given) = env::args(rt) else {
+        return Err(Status::BadWords);
+    };
+    for word in given.skip(1) {
+        if words.push(word).is_err() {
+            return Err(Status::NoMemory);
+        }
+    }
+    Ok(words)
+}
