@@ -1,0 +1,261 @@
+//! Merging data files.
+
+use super::{Case, Setup, prepared, run, texts};
+use std::alloc::Global;
+use cov_program::Status;
+use std::process::Abort;
+use std::test::Fail;
+use std::thread::Threads;
+
+const THREE: &[u8] = b"# SystemC::Coverage-3\nC '\x01f\x02a'b.v\x01l\x02\x31' 3\n";
+
+const ALMOST: &[u8] =
+    b"# SystemC::Coverage-3\nC '\x01f\x02a'b.v\x01l\x02\x31' 18446744073709551614\n";
+
+const FULL: &[u8] =
+    b"# SystemC::Coverage-3\nC '\x01f\x02a'b.v\x01l\x02\x31' 18446744073709551615\n";
+
+const HEADER: &[u8] = b"# SystemC::Coverage-3\n";
+
+/// Fields in another order, one of another tool, and lines that are skipped.
+const FOREIGN: &[u8] = b"# SystemC::Coverage-3\n\n# note\nC '\x01page\x02v_line/t\x01h\x02TOP.t\x01l\x02\x37\x01f\x02t.v\x01x\x02\x31' 12\n";
+
+const FOREIGN_RECORD: &[u8] = b"# SystemC::Coverage-3\nC '\x01page\x02v_line/t\x01h\x02TOP.t\x01l\x02\x37\x01f\x02t.v\x01x\x02\x31' 12\n";
+
+/// Two keys against the order of bytes, one twice, counts with leading zeros.
+const MIXED: &[u8] = b"# SystemC::Coverage-3\nC '\x01f\x02b' 007\nC '\x01f\x02a' 0\nC '\x01f\x02b' 1\n";
+
+const SORTED: &[u8] = b"# SystemC::Coverage-3\nC '\x01f\x02a' 0\nC '\x01f\x02b' 8\n";
+
+const MERGE: &[&str] = &["cover", "--write", "o.dat", "a.dat", "b.dat"];
+
+const TURNED: &[&str] = &["cover", "--write", "o.dat", "b.dat", "a.dat"];
+
+const ONE: &[&str] = &["cover", "--write", "o.dat", "d.dat"];
+
+const PAIR: &[(&str, &[u8])] = &[("a.dat", THREE), ("b.dat", ALMOST)];
+
+fn done<'a>(
+    words: &'a [&'a str],
+    files: &'a [(&'a str, &'a [u8])],
+    stored: &'a [u8],
+) -> Case<'a> {
+    Case {
+        words,
+        files,
+        status: Status::Done,
+        line: b"",
+        stored: Some(stored),
+    }
+}
+
+fn refused<'a>(
+    words: &'a [&'a str],
+    files: &'a [(&'a str, &'a [u8])],
+    status: Status,
+    line: &'a [u8],
+) -> Case<'a> {
+    Case {
+        words,
+        files,
+        status,
+        line,
+        stored: None,
+    }
+}
+
+/// What the program leaves where no call fails.
+fn is_case(rt: &impl Abort, case: &Case, status: Status, setup: &Setup) {
+    assert!(rt; status == case.status);
+    assert!(rt; setup.files.bytes_of("o.dat") == case.stored);
+    assert!(rt; setup.err.bytes() == case.line);
+    assert!(rt; setup.out.bytes().is_empty());
+}
+
+/// Runs a case with pieces of this size, and looks at what it leaves.
+fn answers<R: Threads + Sync + Abort>(
+    rt: &R,
+    alloc: Global,
+    case: &Case,
+    piece: u32,
+) -> Result<(), Fail> {
+    let mut setup = prepared(alloc, piece, case.files)?;
+    let words = texts(alloc, case.words)?;
+    let status = run(rt, alloc, &words, &mut setup);
+    is_case(rt, case, status, &setup);
+    Ok(())
+}
+
+#[test]
+fn data_files_are_merged(rt: HostRuntime) -> Result<(), Fail> {
+    let cases = [
+        done(MERGE, PAIR, FULL),
+        done(TURNED, PAIR, FULL),
+        done(ONE, &[("d.dat", HEADER)], HEADER),
+        done(ONE, &[("d.dat", FOREIGN)], FOREIGN_RECORD),
+        done(ONE, &[("d.dat", MIXED)], SORTED),
+    ];
+    for case in &cases {
+        for piece in [1, 7, 65_536] {
+            answers(&rt, rt.alloc(), case, piece)?;
+        }
+    }
+    Ok(())
+}
+
+#[test]
+fn bad_input_stores_nothing(rt: HostRuntime) -> Result<(), Fail> {
+    let bad: [&[u8]; 12] = [
+        b"",
+        b"# SystemC::Coverage-3",
+        b"# SystemC::Coverage-3\nC '\x01f\x02a",
+        b"# SystemC::Coverage-3\r\nC '\x01f\x02a' 1\r\n",
+        b"# SystemC::Coverage-3\nC '\x01f\x02a' 1\r\n",
+        b"# SystemC::Coverage-3\nC '\x01f\x02a' 18446744073709551616\n",
+        b"# SystemC::Coverage-3\nC '\x01f\x02a'1\n",
+        b"# SystemC::Coverage-3\nC '\x01f\x02a' -1\n",
+        b"# SystemC::Coverage-3\nC '' 1\n",
+        b"# SystemC::Coverage-3\nC '\x01\x02a' 1\n",
+        b"# SystemC::Coverage-3\nC 'f' 1\n",
+        b"junk\n",
+    ];
+    for text in &bad {
+        let files = [("d.dat", *text)];
+        answers(
+            &rt,
+            rt.alloc(),
+            &refused(ONE, &files, Status::BadData, b"vcov: BadData\n"),
+            1,
+        )?;
+    }
+    Ok(())
+}
+
+#[test]
+fn absent_files_and_bad_words_store_nothing(rt: HostRuntime) -> Result<(), Fail> {
+    let alloc = rt.alloc();
+    let absent = refused(
+        MERGE,
+        &[("a.dat", THREE)],
+        Status::Fault,
+        b"vcov: Fault\n",
+    );
+    answers(&rt, alloc, &absent, 1)?;
+    let wrong: [&[&str]; 9] = [
+        &[],
+        &["cover"],
+        &["cover", "--write", "o.dat"],
+        &["cover", "--write", "", "a.dat"],
+        &["cover", "--write", "o.dat", "-"],
+        &["cover", "--write", "o.dat", "a.dat", "-x"],
+        &["cover", "--write", "o.dat", "a\u{7f}.dat"],
+        &["merge", "--write", "o.dat", "a.dat"],
+        &["cover", "--write=o.dat", "a.dat"],
+    ];
+    for words in &wrong {
+        answers(
+            &rt,
+            alloc,
+            &refused(words, PAIR, Status::BadWords, b"vcov: BadWords\n"),
+            3,
+        )?;
+    }
+    Ok(())
+}
+
+#[test]
+fn too_many_files_are_not_opened(rt: HostRuntime) -> Result<(), Fail> {
+    let alloc = rt.alloc();
+    let mut words = texts(alloc, &["cover", "--write", "o.dat"])?;
+    for _ in 0..4096 {
+        words.push(String::from_str(alloc, "d.dat")?)?;
+    }
+    let mut full = prepared(alloc, 64, &[("d.dat", HEADER)])?;
+    assert!(rt; run(&rt, alloc, &words, &mut full) == Status::Done);
+    assert!(rt; full.files.bytes_of("o.dat") == Some(HEADER));
+
+    // Were one opened, its absence would be told.
+    words.push(String::from_str(alloc, "absent.dat")?)?;
+    let mut over = prepared(alloc, 64, &[])?;
+    assert!(rt; run(&rt, alloc, &words, &mut over) == Status::Limit);
+    assert!(rt; over.files.bytes_of("o.dat").is_none());
+    assert!(rt; over.err.bytes() == b"vcov: Limit\n".as_slice());
+    Ok(())
+}
+
+#[test]
+fn any_name_may_be_stored(rt: HostRuntime) -> Result<(), Fail> {
+    let alloc = rt.alloc();
+    for name in ["-", "--write", "a.dat"] {
+        let mut setup = prepared(alloc, 64, PAIR)?;
+        let words = texts(alloc, &["cover", "--write", name, "a.dat", "b.dat"])?;
+        assert!(rt; run(&rt, alloc, &words, &mut setup) == Status::Done);
+        assert!(rt; setup.files.bytes_of(name) == Some(FULL));
+        assert!(rt; setup.files.bytes_of("b.dat") == Some(ALMOST));
+    }
+    Ok(())
+}
+
+/// Runs a case with its k-th call on files failing. It tells whether a call failed.
+fn stops_at<R: Threads + Sync + Abort>(
+    rt: &R,
+    alloc: Global,
+    case: &Case,
+    k: u64,
+) -> Result<bool, Fail> {
+    let mut setup = prepared(alloc, 1, case.files)?;
+    setup.files.fail_at(k)?;
+    let words = texts(alloc, case.words)?;
+    let status = run(rt, alloc, &words, &mut setup);
+    if status != Status::Fault {
+        is_case(rt, case, status, &setup);
+        return Ok(false);
+    }
+    assert!(rt; setup.files.bytes_of("o.dat").is_none());
+    assert!(rt; setup.err.bytes() == b"vcov: Fault\n".as_slice());
+    assert!(rt; setup.out.bytes().is_empty());
+    Ok(true)
+}
+
+#[test]
+fn each_failing_call_is_a_fault(rt: HostRuntime) -> Result<(), Fail> {
+    let alloc = rt.alloc();
+    let cut = refused(
+        ONE,
+        &[("d.dat", b"# SystemC::Coverage-3\nC '\x01f\x02a")],
+        Status::BadData,
+        b"vcov: BadData\n",
+    );
+    let empty = refused(ONE, &[("d.dat", b"")], Status::BadData, b"vcov: BadData\n");
+    // Each file is opened once, and with pieces of one byte read once for each byte and once for its end.
+    // Where it is read through, there is one store.
+    let cases = [
+        (done(MERGE, PAIR, FULL), THREE.len() + ALMOST.len() + 5),
+        (done(TURNED, PAIR, FULL), THREE.len() + ALMOST.len() + 5),
+        (cut, 31),
+        (empty, 2),
+    ];
+    for (case, calls) in &cases {
+        for k in 1..=*calls as u64 {
+            assert!(rt; stops_at(&rt, alloc, case, k)?, "call {k}");
+        }
+        assert!(rt; !stops_at(&rt, alloc, case, *calls as u64 + 1)?);
+    }
+    Ok(())
+}
+
+#[test]
+fn a_failing_put_changes_no_status(rt: HostRuntime) -> Result<(), Fail> {
+    let alloc = rt.alloc();
+    let words = texts(alloc, ONE)?;
+    let line = b"vcov: BadData\n".as_slice();
+    for k in 1..=line.len() + 1 {
+        let mut setup = prepared(alloc, 1, &[("d.dat", b"")])?;
+        setup.err.fail_at(k as u64)?;
+        setup.out.fail_at(k as u64)?;
+        let status = run(&rt, alloc, &words, &mut setup);
+        assert!(rt; status == Status::BadData);
+        assert!(rt; setup.err.bytes() == &line[..k - 1]);
+    }
+    Ok(())
+}
