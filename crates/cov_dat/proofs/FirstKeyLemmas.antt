@@ -1,7 +1,6 @@
-use Rattle.std.proofs.Common.{◌≡◌, ℕ, Bool, true, false, not, cond, ◌||◌, List, [], ◌∷◌, ◌++◌, map, filter, refl, sym, ap, ◌∙◌, subst}
+use Rattle.std.proofs.Common.{◌≡◌, ℕ, Bool, true, false, not, cond, ◌||◌, List, [], ◌∷◌, ◌++◌, filter, refl, sym, ap, ◌∙◌}
 use Rattle.std.specs.List.{AllByRecursion, IsDistinct, list_any}
 use Rattle.std.specs.Str.{bytes_eq}
-use Rattle.std.proofs.lemmas.Bool.{false≢true, true≢false}
 use Rattle.std.proofs.lemmas.Cmp.{nat_list_eq_equiv}
 use Rattle.cov_dat.specs.Merging.{first_keys}
 
@@ -15,8 +14,8 @@ any-without q x [] apart = refl
 any-without q x (k ∷ ks) apart =
     elim (bytes_eq x k) as (λ t. bytes_eq x k ≡ t → list_any (bytes_eq q) (cond (not t) (k ∷ without x ks) (without x ks)) ≡ (bytes_eq q k || list_any (bytes_eq q) ks)) [
       | true ↦ λ is.
-        let other : bytes_eq q k ≡ false = nat_list_eq_equiv.symm q k ∙ nat_list_eq_equiv.congr k x q (nat_list_eq_equiv.symm k x ∙ is) ∙ nat_list_eq_equiv.symm x q ∙ apart in
-        any-without q x ks apart ∙ ap (λ (t : Bool). t || list_any (bytes_eq q) ks) (sym other)
+          let other : bytes_eq q k ≡ false = nat_list_eq_equiv.symm q k ∙ nat_list_eq_equiv.congr k x q (nat_list_eq_equiv.symm k x ∙ is) ∙ nat_list_eq_equiv.symm x q ∙ apart in
+          any-without q x ks apart ∙ ap (λ (t : Bool). t || list_any (bytes_eq q) ks) (sym other)
       | false ↦ λ is. ap (λ (t : Bool). bytes_eq q k || t) (any-without q x ks apart)
     ] refl
 
@@ -67,8 +66,8 @@ first_keys-push (x ∷ ks) k =
     ∙ elim (bytes_eq k x) as (λ t. bytes_eq k x ≡ t → x ∷ without x (with_key fs k) ≡ cond (t || list_any (bytes_eq k) (without x fs)) (x ∷ without x fs) (x ∷ without x fs ++ k ∷ [])) [
       | true ↦ λ is. ap (λ (ls : List (List ℕ)). x ∷ ls) (without-same (list_any (bytes_eq k) fs) x k fs (nat_list_eq_equiv.symm x k ∙ is))
       | false ↦ λ is. ap (λ (ls : List (List ℕ)). x ∷ ls) (without-other (list_any (bytes_eq k) fs) x k fs (nat_list_eq_equiv.symm x k ∙ is))
-        ∙ ap (λ (t : Bool). x ∷ cond t (without x fs) (without x fs ++ k ∷ [])) (sym (any-without k x fs is))
-        ∙ onto-with (list_any (bytes_eq k) (without x fs)) x k (without x fs)
+          ∙ ap (λ (t : Bool). x ∷ cond t (without x fs) (without x fs ++ k ∷ [])) (sym (any-without k x fs is))
+          ∙ onto-with (list_any (bytes_eq k) (without x fs)) x k (without x fs)
     ] refl
 
 apart-without : (x : List ℕ) (ks : List (List ℕ)) → AllByRecursion (λ y. bytes_eq x y ≡ false) (without x ks)

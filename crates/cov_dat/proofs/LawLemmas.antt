@@ -1,4 +1,4 @@
-use Rattle.std.proofs.Common.{◌≡◌, ℕ, ◌+◌, Bool, true, false, cond, ◌||◌, arith, List, [], ◌∷◌, ◌++◌, map, Option, None, Some, refl, sym, ap, ◌∙◌, subst, IsPermutation}
+use Rattle.std.proofs.Common.{◌≡◌, ℕ, ◌+◌, Bool, true, false, cond, ◌||◌, List, [], ◌∷◌, ◌++◌, map, Option, None, Some, refl, sym, ap, ◌∙◌, subst}
 use Rattle.std.specs.List.{AllByRecursion, IsDistinct, list_any}
 use Rattle.std.specs.Str.{bytes_eq}
 use Rattle.std.specs.Ordering.{nat_cmp}
@@ -40,13 +40,13 @@ added-counted f k count (x ∷ ks) distinct among =
     elim (bytes_eq k x) as (λ t. bytes_eq k x ≡ t → (t || list_any (bytes_eq k) ks) ≡ true
     → (x, raised f k count x) ∷ counted (raised f k count) ks ≡ cond t ((x, saturated (f x + count)) ∷ counted f ks) ((x, f x) ∷ added (counted f ks) k count)) [
       | true ↦ λ is h.
-        let same : k ≡ x = (bytes_eq-Decides k x).0 is in
-        let apart : AllByRecursion (λ y. bytes_eq k y ≡ false) ks = subst (λ (z : List ℕ). AllByRecursion (λ y. bytes_eq z y ≡ false) ks) (sym same) distinct.0 in
-        ap (λ (t : Bool). (x, cond t (saturated (f x + count)) (f x)) ∷ counted (raised f k count) ks) (nat_list_eq_equiv.symm x k ∙ is)
-        ∙ ap (λ (es : Counts). (x, saturated (f x + count)) ∷ es) (sym (counted-apart f k count ks apart))
+          let same : k ≡ x = (bytes_eq-Decides k x).0 is in
+          let apart : AllByRecursion (λ y. bytes_eq k y ≡ false) ks = subst (λ (z : List ℕ). AllByRecursion (λ y. bytes_eq z y ≡ false) ks) (sym same) distinct.0 in
+          ap (λ (t : Bool). (x, cond t (saturated (f x + count)) (f x)) ∷ counted (raised f k count) ks) (nat_list_eq_equiv.symm x k ∙ is)
+          ∙ ap (λ (es : Counts). (x, saturated (f x + count)) ∷ es) (sym (counted-apart f k count ks apart))
       | false ↦ λ is h.
-        ap (λ (t : Bool). (x, cond t (saturated (f x + count)) (f x)) ∷ counted (raised f k count) ks) (nat_list_eq_equiv.symm x k ∙ is)
-        ∙ ap (λ (es : Counts). (x, f x) ∷ es) (added-counted f k count ks distinct.1 h)
+          ap (λ (t : Bool). (x, cond t (saturated (f x + count)) (f x)) ∷ counted (raised f k count) ks) (nat_list_eq_equiv.symm x k ∙ is)
+          ∙ ap (λ (es : Counts). (x, f x) ∷ es) (added-counted f k count ks distinct.1 h)
     ] refl among
 
 -- a count more at a new key
@@ -59,8 +59,8 @@ added-counted_new f k count (x ∷ ks) none new =
     → (x, raised f k count x) ∷ counted (raised f k count) (ks ++ k ∷ []) ≡ cond t ((x, saturated (f x + count)) ∷ counted f ks) ((x, f x) ∷ added (counted f ks) k count)) [
       | true ↦ λ is h. absurd (true≢false h)
       | false ↦ λ is h.
-        ap (λ (t : Bool). (x, cond t (saturated (f x + count)) (f x)) ∷ counted (raised f k count) (ks ++ k ∷ [])) (nat_list_eq_equiv.symm x k ∙ is)
-        ∙ ap (λ (es : Counts). (x, f x) ∷ es) (added-counted_new f k count ks none h)
+          ap (λ (t : Bool). (x, cond t (saturated (f x + count)) (f x)) ∷ counted (raised f k count) (ks ++ k ∷ [])) (nat_list_eq_equiv.symm x k ∙ is)
+          ∙ ap (λ (es : Counts). (x, f x) ∷ es) (added-counted_new f k count ks none h)
     ] refl new
 
 -- both at once
@@ -88,7 +88,7 @@ adds_one_by_one rs r =
     ∙ ap (λ (ks : List (List ℕ)). counted (with_record rs r) (first_keys ks)) (map-push rs r)
     ∙ ap (counted (with_record rs r)) (first_keys-push keys r.key)
     ∙ added-counted_either (merged_count rs) r.key r.count (first_keys keys) (first_keys-distinct keys)
-        (λ h. merged_count-share rs r.key ∙ ap saturated (share-absent r.key rs (sym (any-first_keys r.key keys) ∙ h)))
+    (λ h. merged_count-share rs r.key ∙ ap saturated (share-absent r.key rs (sym (any-first_keys r.key keys) ∙ h)))
 
 -- the value of a key among keys with their values
 find-counted : (f : List ℕ → ℕ) (q : List ℕ) (ks : List (List ℕ)) → find (slice_cmp nat_cmp) q (counted f ks) ≡ cond (list_any (bytes_eq q) ks) (Some (f q)) None

@@ -1,3 +1,4 @@
+pub mod AscendLemmas
 pub mod FaultLemmas
 pub mod FirstKeyLemmas
 pub mod FrontLemmas

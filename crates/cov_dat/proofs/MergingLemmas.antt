@@ -1,10 +1,10 @@
-use Rattle.std.proofs.Common.{◌≡◌, ℕ, zero, suc, ◌+◌, ◌-◌, ◌^◌, ◌<◌, Bool, true, false, not, cond, is_some, nat_lt, ◌||◌, length, arith, List, [], ◌∷◌, ◌++◌, slice_get, position, refl, sym, ◌∙◌, ap, subst, Option, None, Some}
+use Rattle.std.proofs.Common.{◌≡◌, ℕ, zero, suc, ◌+◌, ◌^◌, ◌<◌, Bool, true, false, not, cond, is_some, nat_lt, ◌||◌, length, arith, List, [], ◌∷◌, ◌++◌, slice_get, position, refl, sym, ◌∙◌, ap, subst, Option, None, Some}
 use Rattle.std.specs.Str.{bytes_eq}
 use Rattle.std.specs.List.{AllByRecursion, list_any, position_or_len}
 use Rattle.std.specs.Map.{lookup, values_of}
 use Rattle.std.proofs.lemmas.Bool.{false≢true, true≢false}
 use Rattle.indexmap.specs.IndexMap.{set_value_at}
-use Rattle.cov_dat.specs.Merging.{Counts, added, key_bytes, keys_of, limit_passed, number_of, saturated, total}
+use Rattle.cov_dat.specs.Merging.{Counts, added, key_bytes, keys_of, limit_passed, number_of, saturated}
 use Rattle.cov_dat.specs.KeyTable.{has_key, limit_at, raised_at}
 
 -- a number below 2^64 is its own saturation

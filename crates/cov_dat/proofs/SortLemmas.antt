@@ -20,7 +20,7 @@ put_seen (e ∷ es) k v = elim (by_bytes k e.0) as (λ o. seen_sorted (match_ord
       | Greater ↦ ap (λ (xs : Counts). (e.0.now, e.1) ∷ xs) (put_seen es k v)
     ]
 
-drop_step : (es : Counts) (n : ℕ) (e : List ℕ × ℕ) → slice_get es n ≡ Some e → drop n es ≡ e ∷ drop (suc n) es
+pub drop_step : (es : Counts) (n : ℕ) (e : List ℕ × ℕ) → slice_get es n ≡ Some e → drop n es ≡ e ∷ drop (suc n) es
 drop_step [] n e is = absurd (cc)
 drop_step (x ∷ xs) zero e is = ap (λ (y : List ℕ × ℕ). y ∷ xs) (cc)
 drop_step (x ∷ xs) (suc n) e is = drop_step xs n e is

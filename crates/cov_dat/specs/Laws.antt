@@ -1,5 +1,5 @@
 -- Laws of merging.
-use Rattle.std.specs.Prelude.{◌≡◌, ℕ, List, [], ◌∷◌, ◌++◌, IsPermutation}
+use Rattle.std.specs.Prelude.{◌≡◌, List, [], ◌∷◌, ◌++◌, IsPermutation}
 use Rattle.std.specs.List.{flat_map}
 use Rattle.cov_dat.specs.Merging.{added, merged}
 use Rattle.cov_dat.specs.DataText.{count_map}

@@ -1,5 +1,5 @@
 -- What the records of several files come to together.
-use Rattle.std.specs.Prelude.{ℕ, ◌+◌, ◌-◌, ◌^◌, min, Bool, not, nat_lt, length, List, [], ◌∷◌, filter, map, Option, None, Some, if◌then◌else◌}
+use Rattle.std.specs.Prelude.{ℕ, ◌+◌, ◌-◌, ◌^◌, min, not, nat_lt, length, List, [], ◌∷◌, filter, map, Option, None, Some, if◌then◌else◌}
 use Rattle.std.specs.Str.{bytes_eq}
 use Rattle.std.specs.List.{position_or_len}
 use Rattle.cov_port.specs.declared.limit.LimitName.{LimitName}

@@ -4,11 +4,11 @@ ghost use Rattle.std.specs.Str.{bytes_eq};
 ghost use Rattle.cov_port.specs.Key.{IsKey};
 ghost use Rattle.cov_port.specs.declared.limit.LimitName.{LimitName};
 ghost use Rattle.cov_dat.specs.Merging.{added, keys_of, limit_passed, number_of};
-ghost use Rattle.cov_dat.specs.DataText.{count_map, data_text};
+ghost use Rattle.cov_dat.specs.DataText.{count_map, data_text as text_of};
 ghost use Rattle.cov_dat.specs.declared.merge_fault.MergeFault.TheVariants.{Limit};
 
 use crate::byte_key::Key;
-use crate::data_text::{sorted, written};
+use crate::data_text::data_text;
 use crate::key_table::{append, limit_at, raise};
 use crate::merge_fault::MergeFault;
 use cov_port::{ByteText, NoMemory};
@@ -16,12 +16,20 @@ use indexmap::IndexMap;
 use std::alloc::Global;
 use std::marker::Model;
 
+/// The bytes of the header and its line feed.
+const HEADER_BYTES: usize = 22;
+
+/// What a record has beside its key: `C`, two quotes, two blanks, at most 20 digits and a line feed.
+const MOST_BYTES_BESIDE_KEY: usize = 26;
+
 /// Keys with the sums of their counts, in order of first arrival.
 #[derive(Drop)]
 pub struct Merged {
     alloc: Global,
     counts: IndexMap<Key, u64>,
+    // The bytes of all keys together.
     bytes_held: usize,
+    // The key that is looked up. It keeps its memory from one look-up to the next.
     sought: Key,
 }
 
@@ -86,10 +94,10 @@ impl Merged {
 
     /// The data file of these keys, in byte order of keys.
     pub fn text(&self, alloc: Global) -> Result<ByteText, NoMemory>
-        ensures { IfOk result (λ t. t ≡ data_text (count_map self.now)) }
+        ensures { IfOk result (λ t. t ≡ text_of (count_map self.now)) }
     {
-        let sorted = sorted(alloc, &self.counts)?;
-        let text = written(alloc, &sorted)?;
+        let room = HEADER_BYTES + self.bytes_held + self.counts.len() * MOST_BYTES_BESIDE_KEY;
+        let text = data_text(alloc, &self.counts, room)?;
         Ok(ByteText::from_vec(text))
     }
 
