@@ -82,6 +82,7 @@ impl MemFiles {
     }
 
     /// Makes the name hold these bytes. It takes the memory for them, and leaves the room as it is.
+    /// With `NoMemory` nothing has changed.
     pub fn add_file(&mut self, name: &str, bytes: &[u8]) -> Result<(), NoMemory>
         ensures ok { OnOk result (self.new ≡ record self.old { files = self.old.files ++ (name.now, bytes.now) ∷ [] }) }
         ensures err { OnErr result (self.new ≡ self.old) }
@@ -101,7 +102,8 @@ impl MemFiles {
         }
     }
 
-    /// Makes the call of the trait with this number fail. They are counted from 1.
+    /// Makes the call of the trait with this number fail. Calls are counted from 1, and the count
+    /// stays at 2^64 - 1. With `NoMemory` nothing has changed.
     pub fn fail_at(&mut self, call: u64) -> Result<(), NoMemory>
         ensures ok { OnOk result (self.new ≡ record self.old { listed = self.old.listed ++ call ∷ [] }) }
         ensures err { OnErr result (self.new ≡ self.old) }
@@ -112,7 +114,8 @@ impl MemFiles {
         }
     }
 
-    /// Takes room for so many further stores, and so many bytes of their names and texts together.
+    /// Takes room for so many further stores, and so many bytes of their names and texts together,
+    /// beside the room there is. With `NoMemory`, also where the sums pass 2^64 - 1, nothing has changed.
     pub fn room(&mut self, stores: u32, bytes: u64) -> Result<(), NoMemory>
         ensures ok { OnOk result (self.new ≡ record self.old { stores_left = self.old.stores_left + stores; bytes_left = self.old.bytes_left + bytes }) }
         ensures err { OnErr result (self.new ≡ self.old) }
@@ -133,7 +136,7 @@ impl MemFiles {
         }
     }
 
-    /// What the name holds.
+    /// The bytes that the name holds, or nothing where it is absent.
     pub fn bytes_of(&self, name: &str) -> Option<&[u8]>
         ensures { option_copied result ≡ held_in self.now.files name.now }
     {

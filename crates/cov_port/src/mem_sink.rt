@@ -57,7 +57,8 @@ impl MemSink {
         }
     }
 
-    /// Makes the put with this number fail. Puts are counted from 1.
+    /// Makes the put with this number fail. Puts are counted from 1, and the count stays at
+    /// 2^64 - 1. With `NoMemory` nothing has changed.
     pub fn fail_at(&mut self, call: u64) -> Result<(), NoMemory>
         ensures ok { OnOk result (self.new ≡ record self.old { listed = self.old.listed ++ call ∷ [] }) }
         ensures err { OnErr result (self.new ≡ self.old) }
@@ -68,7 +69,8 @@ impl MemSink {
         }
     }
 
-    /// Takes room for so many further bytes.
+    /// Takes room for so many further bytes, beside the room there is. With `NoMemory`, also where
+    /// the sum passes 2^64 - 1, nothing has changed.
     pub fn room(&mut self, bytes: u64) -> Result<(), NoMemory>
         ensures ok { OnOk result (self.new ≡ record self.old { bytes_left = self.old.bytes_left + bytes }) }
         ensures err { OnErr result (self.new ≡ self.old) }
