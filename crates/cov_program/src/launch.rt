@@ -4,7 +4,7 @@ use cov_port::{RealFiles, RealSink, put_all};
 use std::alloc::Global;
 use std::env;
 use std::env::Env;
-use std::io::Write;
+use std::io::{ErrorKind, Write};
 use std::rt;
 use std::thread::Threads;
 
@@ -33,12 +33,14 @@ where
     }
 }
 
-/// The words after the program's name.
+/// The words after the program's name. Words that aren't UTF-8 are bad ones.
 fn given_words(rt: &(impl Env + AllocGlobal), alloc: Global) -> Result<Vec<String>, Status> {
-    let mut words = Vec::new(alloc);
-    let Ok(given) = env::args(rt) else {
-        return Err(Status::BadWords);
+    let given = match env::args(rt) {
+        Ok(given) => given,
+        Err(error) if error.kind() == ErrorKind::OutOfMemory => return Err(Status::NoMemory),
+        Err(_) => return Err(Status::BadWords),
     };
+    let mut words = Vec::new(alloc);
     for word in given.skip(1) {
         if words.push(word).is_err() {
             return Err(Status::NoMemory);
