@@ -13,18 +13,22 @@ use Rattle.cov_dat.proofs.SortLemmas.{drop_step}
 abbrev order : List ℕ → List ℕ → Ordering
 order = slice_cmp nat_cmp
 
+-- two tests that hold, hold together
 both : (a b : Bool) → a ≡ true → b ≡ true → (a && b) ≡ true
 both true b p q = q
 both false b p q = absurd (true≢false (sym p))
 
+-- and then each holds
 first : (a b : Bool) → (a && b) ≡ true → a ≡ true
 first true b p = refl
 first false b p = p
 
+-- the other one too
 second : (a b : Bool) → (a && b) ≡ true → b ≡ true
 second true b p = p
 second false b p = absurd (true≢false (sym p))
 
+-- a test for `Less` tells it
 less : (o : Ordering) → is_lt o ≡ true → o ≡ Less
 less Less p = refl
 less Equal p = absurd (true≢false (sym p))

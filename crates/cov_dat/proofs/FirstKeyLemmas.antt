@@ -28,6 +28,7 @@ any-first_keys q (k ∷ ks) =
       | false ↦ λ is. any-without q k (first_keys ks) is ∙ any-first_keys q ks
     ] refl
 
+-- a key is taken out of both parts of a list
 without-append : (x : List ℕ) (ks ls : List (List ℕ)) → without x (ks ++ ls) ≡ without x ks ++ without x ls
 without-append x [] ls = refl
 without-append x (k ∷ ks) ls =
@@ -36,6 +37,7 @@ without-append x (k ∷ ks) ls =
       | false ↦ ap (λ (ms : List (List ℕ)). k ∷ ms) (without-append x ks ls)
     ]
 
+-- nothing behind a list changes nothing
 no_more : (ks : List (List ℕ)) → ks ++ [] ≡ ks
 no_more [] = refl
 no_more (k ∷ ks) = ap (λ (ls : List (List ℕ)). k ∷ ls) (no_more ks)
@@ -44,15 +46,18 @@ no_more (k ∷ ks) = ap (λ (ls : List (List ℕ)). k ∷ ls) (no_more ks)
 abbrev pub with_key : List (List ℕ) → List ℕ → List (List ℕ)
 with_key ks k = cond (list_any (bytes_eq k) ks) ks (ks ++ k ∷ [])
 
+-- the key that is taken out anyway may stand behind the others or not
 without-same : (t : Bool) (x k : List ℕ) (ks : List (List ℕ)) → bytes_eq x k ≡ true → without x (cond t ks (ks ++ k ∷ [])) ≡ without x ks
 without-same true x k ks same = refl
 without-same false x k ks same = without-append x ks (k ∷ []) ∙ ap (λ (t : Bool). without x ks ++ cond (not t) (k ∷ []) []) same ∙ no_more (without x ks)
 
+-- another key that goes last still does once a key is taken out
 without-other : (t : Bool) (x k : List ℕ) (ks : List (List ℕ)) → bytes_eq x k ≡ false
     → without x (cond t ks (ks ++ k ∷ [])) ≡ cond t (without x ks) (without x ks ++ k ∷ [])
 without-other true x k ks apart = refl
 without-other false x k ks apart = without-append x ks (k ∷ []) ∙ ap (λ (t : Bool). without x ks ++ cond (not t) (k ∷ []) []) apart
 
+-- a key in front goes in front of both lists
 onto-with : (t : Bool) (x k : List ℕ) (ks : List (List ℕ)) → x ∷ cond t ks (ks ++ k ∷ []) ≡ cond t (x ∷ ks) (x ∷ ks ++ k ∷ [])
 onto-with true x k ks = refl
 onto-with false x k ks = refl
@@ -70,6 +75,7 @@ first_keys-push (x ∷ ks) k =
           ∙ onto-with (list_any (bytes_eq k) (without x fs)) x k (without x fs)
     ] refl
 
+-- what is left differs from the key that was taken out
 apart-without : (x : List ℕ) (ks : List (List ℕ)) → AllByRecursion (λ y. bytes_eq x y ≡ false) (without x ks)
 apart-without x [] = tt
 apart-without x (k ∷ ks) =
@@ -78,6 +84,7 @@ apart-without x (k ∷ ks) =
       | false ↦ λ is. (is, apart-without x ks)
     ] refl
 
+-- what holds of all keys holds of those that are left
 all-without : (P : List ℕ → Type 0) (x : List ℕ) (ks : List (List ℕ)) → AllByRecursion P ks → AllByRecursion P (without x ks)
 all-without P x [] all = tt
 all-without P x (k ∷ ks) all =
@@ -86,6 +93,7 @@ all-without P x (k ∷ ks) all =
       | false ↦ (all.0, all-without P x ks all.1)
     ]
 
+-- distinct keys stay distinct
 distinct-without : (x : List ℕ) (ks : List (List ℕ)) → IsDistinct bytes_eq ks → IsDistinct bytes_eq (without x ks)
 unfolding IsDistinct
 distinct-without x [] distinct = tt

@@ -1,10 +1,10 @@
 -- A text past the limit on bytes reads as its front.
-use Rattle.std.proofs.Common.{◌≡◌, ℕ, zero, suc, ◌+◌, ◌-◌, ◌<◌, ◌≤◌, Bool, true, false, cond, eqb, ltb, List, [], ◌∷◌, ◌++◌, length, take, refl, sym, ◌∙◌, ap, Result, Ok, Err, None, Some, arith, inl, inr, length-append, length-take, append-nil}
+use Rattle.std.proofs.Common.{◌≡◌, ℕ, zero, suc, ◌+◌, ◌-◌, ◌<◌, ◌≤◌, Bool, true, false, cond, eqb, ltb, List, [], ◌∷◌, ◌++◌, length, take, refl, sym, ◌∙◌, ap, Ok, Err, None, Some, arith, inl, inr, length-append, length-take}
 use Rattle.std.proofs.lemmas.Bool.{cases_lt, cases_Bool, eqb-true, lt-ltb, le-ltb}
 use Rattle.std.proofs.lemmas.List.{take_all, take-append-le}
 use Rattle.cov_dat.specs.Lines.{Line, onto_line, lines_of}
-use Rattle.cov_dat.specs.DataLine.{Says, bytes_of, is_long, says, says_within}
-use Rattle.cov_dat.specs.Reading.{all_say, reading, reading_from, reading_of}
+use Rattle.cov_dat.specs.DataLine.{Says, bytes_of, says_within}
+use Rattle.cov_dat.specs.Reading.{all_say, reading_from, reading_of}
 use Rattle.cov_dat.specs.FrontLaw.{ReadsByFront}
 use Rattle.cov_dat.specs.declared.fault.DataFault.{DataFault}
 use Rattle.cov_dat.specs.declared.fault.DataFault.TheVariants.{LineTooLong, Limit}

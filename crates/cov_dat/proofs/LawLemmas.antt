@@ -72,10 +72,12 @@ added-counted_either f k count ks distinct none =
       | false ↦ λ is. added-counted_new f k count ks (none is) is
     ] refl
 
+-- the keys with a record more
 map-push : (rs : List Record) (r : Record) → map (λ x. x.key) (rs ++ r ∷ []) ≡ map (λ x. x.key) rs ++ r.key ∷ []
 map-push [] r = refl
 map-push (x ∷ rs) r = ap (λ (ks : List (List ℕ)). x.key ∷ ks) (map-push rs r)
 
+-- equal values give equal entries
 counted-same : (f g : List ℕ → ℕ) → ((q : List ℕ) → f q ≡ g q) → (ks : List (List ℕ)) → counted f ks ≡ counted g ks
 counted-same f g same [] = refl
 counted-same f g same (k ∷ ks) = ap (λ (n : ℕ). (k, n) ∷ counted f ks) (same k) ∙ ap (λ (es : Counts). (k, g k) ∷ es) (counted-same f g same ks)
@@ -104,11 +106,13 @@ find-counted f q (k ∷ ks) =
 found : List Record → List ℕ → Option ℕ
 found rs q = cond (list_any (bytes_eq q) (map (λ r. r.key) rs)) (Some (merged_count rs q)) None
 
+-- the merged counts have it
 find-merged : (rs : List Record) (q : List ℕ) → find (slice_cmp nat_cmp) q (merged rs) ≡ found rs q
 unfolding found
 find-merged rs q = find-counted (merged_count rs) q (first_keys (map (λ r. r.key) rs))
     ∙ ap (λ (t : Bool). cond t (Some (merged_count rs q)) None) (any-first_keys q (map (λ r. r.key) rs))
 
+-- it is known from the weights
 found-weights : (rs qs : List Record) → ((f : Record → ℕ) → weight f rs ≡ weight f qs) → (q : List ℕ) → found rs q ≡ found qs q
 unfolding found
 found-weights rs qs same q = rw (any-presence q rs, any-presence q qs, merged_count-share rs q, merged_count-share qs q, same (presence q), same (share q)) refl

@@ -63,11 +63,13 @@ number_of-found test xs i = elim (nat_lt (position_or_len test xs) (length xs)) 
   | false ↦ λ h. absurd (cc)
 ]
 
+-- to raise a count adds no key
 pub length-raised : (es : Counts) (number count : ℕ) → length (raised_at es number count) ≡ length es
 length-raised [] number count = refl
 length-raised (e ∷ es) zero count = refl
 length-raised (e ∷ es) (suc number) count = ap suc (length-raised es number count)
 
+-- nor any bytes of keys
 pub key_bytes-raised : (es : Counts) (number count : ℕ) → key_bytes (raised_at es number count) ≡ key_bytes es
 key_bytes-raised [] number count = refl
 key_bytes-raised (e ∷ es) zero count = refl
@@ -77,10 +79,12 @@ key_bytes-raised (e ∷ es) (suc number) count = ap (λ (n : ℕ). length e.0 + 
 pub limit_passed-raised : (es : Counts) (number count : ℕ) → limit_passed (raised_at es number count) ≡ limit_passed es
 limit_passed-raised es number count = rw (length-raised es number count, key_bytes-raised es number count) refl
 
+-- an entry more is one key more
 pub length-pushed : (es : Counts) (key : List ℕ) (count : ℕ) → length (es ++ (key, count) ∷ []) ≡ length es + 1
 length-pushed [] key count = refl
 length-pushed (e ∷ es) key count = let rest = length-pushed es key count in omega arith
 
+-- with its bytes
 pub key_bytes-pushed : (es : Counts) (key : List ℕ) (count : ℕ) → key_bytes (es ++ (key, count) ∷ []) ≡ key_bytes es + length key
 key_bytes-pushed [] key count = omega arith
 key_bytes-pushed (e ∷ es) key count = let rest = key_bytes-pushed es key count in omega arith

@@ -21,6 +21,7 @@ zero_more n = omega arith
 pub weight-IsPermutation : {X : Type 0} (f : X → ℕ) (xs ys : List X) → IsPermutation xs ys → weight f xs ≡ weight f ys
 weight-IsPermutation f xs ys p = is_sum_by (weight f) f refl (λ x xs. refl) xs ∙ sym (sum_by-IsPermutation f xs ys p) ∙ sym (is_sum_by (weight f) f refl (λ x xs. refl) ys)
 
+-- the weight of two lists is the sum of theirs
 pub weight-append : {X : Type 0} (f : X → ℕ) (xs ys : List X) → weight f (xs ++ ys) ≡ weight f xs + weight f ys
 weight-append f [] ys = sym (zero_more (weight f ys))
 weight-append f (x ∷ xs) ys = let rest = weight-append f xs ys in omega arith
@@ -47,6 +48,7 @@ total-share key (r ∷ rs) =
       | false ↦ total-share key rs ∙ sym (zero_more (weight (share key) rs))
     ]
 
+-- the merged count by shares
 pub merged_count-share : (rs : List Record) (key : List ℕ) → merged_count rs key ≡ saturated (weight (share key) rs)
 merged_count-share rs key = ap saturated (total-share key rs)
 
@@ -76,6 +78,7 @@ saturated-twice n m = omega arith
 abbrev pub with_record : List Record → Record → List ℕ → ℕ
 with_record rs r key = cond (bytes_eq key r.key) (saturated (merged_count rs key + r.count)) (merged_count rs key)
 
+-- a record more raises the count of its key alone
 pub merged_count-with : (rs : List Record) (r : Record) (key : List ℕ) → merged_count (rs ++ r ∷ []) key ≡ with_record rs r key
 merged_count-with rs r key =
     merged_count-share (rs ++ r ∷ []) key ∙ ap saturated (weight-append (share key) rs (r ∷ []))

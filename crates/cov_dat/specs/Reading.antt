@@ -1,5 +1,5 @@
 -- The records of a data file, and its first fault.
-use Rattle.std.specs.Prelude.{ℕ, ◌+◌, ◌==◌, List, [], ◌∷◌, Option, None, Some, Result, Ok, Err, if◌then◌else◌}
+use Rattle.std.specs.Prelude.{ℕ, ◌+◌, ◌==◌, List, [], ◌∷◌, Option, None, Some, Ok, Err, if◌then◌else◌}
 use Rattle.cov_dat.specs.Lines.{Line, lines_of}
 use Rattle.cov_dat.specs.DataLine.{Says, bytes_of, says_within}
 use Rattle.cov_dat.specs.declared.fault.DataFault.{DataFault}

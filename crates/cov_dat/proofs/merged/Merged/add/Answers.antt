@@ -1,8 +1,8 @@
-use Rattle.std.proofs.Common.{rules, ◌≡◌, ℕ, ◌+◌, ◌^◌, ◌<◌, List, ◌++◌, ◌∷◌, [], length, true, false, is_some, Option, None, Some, sym, ap, subst, ◌∙◌, arith}
+use Rattle.std.proofs.Common.{rules, ◌≡◌, ℕ, ◌+◌, List, length, true, false, is_some, None, sym, ap, subst, ◌∙◌}
 use Rattle.std.specs.List.{AllByRecursion}
 use Rattle.cov_port.specs.Key.{IsKey}
-use Rattle.cov_dat.specs.Merging.{Counts, added, key_bytes, limit_passed, number_of}
-use Rattle.cov_dat.specs.KeyTable.{has_key, limit_at, raised_at}
+use Rattle.cov_dat.specs.Merging.{Counts, added, key_bytes, limit_passed}
+use Rattle.cov_dat.specs.KeyTable.{has_key}
 use Rattle.cov_dat.proofs.FaultLemmas.{limit-of_limit}
 use Rattle.cov_dat.proofs.MergingLemmas.{all-added, appended-is-added, key_bytes-present, key_bytes-pushed, limit_passed-counted, limit_passed-present, new-from_look_up, number_of-new, raised-is-added}
 use Rattle.cov_dat.proofs.merged.Merged.add.Goals as goal
@@ -21,10 +21,11 @@ pub invariant_of-self-in-Some : goal.invariant_of-self-in-Some
 invariant_of-self-in-Some c =
     let es = c.self.inside.counts.entries in
     let key = c.args.key.now in
-    rw (raised-is c)
-    (limit_passed-present es key c.args.count (stands c) ∙ c.self.invariant.0
-    , c.self.invariant.1 ∙ sym (key_bytes-present es key c.args.count (stands c))
-    , all-added IsKey es key c.args.count c.self.invariant.2 c.requires)
+    rw (raised-is c) (
+      limit_passed-present es key c.args.count (stands c) ∙ c.self.invariant.0,
+      c.self.invariant.1 ∙ sym (key_bytes-present es key c.args.count (stands c)),
+      all-added IsKey es key c.args.count c.self.invariant.2 c.requires,
+    )
 
 pub returns-in-Some-clause-ok : goal.returns-in-Some-clause-ok
 returns-in-Some-clause-ok c = rw (← c.self.view_is) (raised-is c)
@@ -56,10 +57,11 @@ pub invariant_of-self-in-None : goal.invariant_of-self-in-None
 invariant_of-self-in-None c =
     let es = c.self.inside.counts.entries in
     let key = c.args.key.now in
-    let bytes : key_bytes c.append.new.counts.entries ≡ key_bytes es + length key = ap key_bytes c.in_ok-append-in-None.ensures.ok ∙ key_bytes-pushed es key c.args.count in
-    (ap limit_passed (appended-is c) ∙ none-passed c
-    , ap (λ (n : ℕ). n + length key) c.self.invariant.1 ∙ sym bytes
-    , subst (λ (xs : Counts). AllByRecursion (λ e. IsKey e.0) xs) (sym (appended-is c)) (all-added IsKey es key c.args.count c.self.invariant.2 c.requires))
+    let bytes : key_bytes c.append.new.counts.entries ≡ key_bytes es + length key = ap key_bytes c.in_ok-append-in-None.ensures.ok ∙ key_bytes-pushed es key c.args.count in (
+      ap limit_passed (appended-is c) ∙ none-passed c,
+      ap (λ (n : ℕ). n + length key) c.self.invariant.1 ∙ sym bytes,
+      subst (λ (xs : Counts). AllByRecursion (λ e. IsKey e.0) xs) (sym (appended-is c)) (all-added IsKey es key c.args.count c.self.invariant.2 c.requires),
+    )
 
 pub returns-in_ok-append-in-None-clause-ok : goal.returns-in_ok-append-in-None-clause-ok
 returns-in_ok-append-in-None-clause-ok c = rw (← c.self.view_is) (appended-is c)
