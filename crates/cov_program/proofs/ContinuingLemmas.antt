@@ -1,8 +1,7 @@
 -- The merge from one arrival to the next.
-use Rattle.std.proofs.Common.{◌≡◌, ℕ, ◌+◌, ◌<◌, Bool, true, false, cond, is_some, List, [], ◌∷◌, ◌++◌, map, take, drop, length, get_or, drop-cons, add-one, String, Global, string_bytes, refl, sym, ◌∙◌, ap, subst, Option, None, Some, Result, Ok, Err, arith, inl, inr, append_assoc}
+use Rattle.std.proofs.Common.{◌≡◌, ℕ, ◌+◌, ◌<◌, true, false, cond, is_some, List, [], ◌∷◌, ◌++◌, map, drop, length, get_or, drop-cons, add-one, String, Global, string_bytes, refl, sym, ◌∙◌, ap, Option, None, Some, Result, Ok, Err, inl, inr}
 use Rattle.std.specs.Prelude.{IfSome, IsSomeAnd, IfErr, IsErrOf}
 use Rattle.std.specs.List.{flat_map}
-use Rattle.std.specs.Option.{option_map}
 use Rattle.cov_port.specs.Files.{Names, FileFaults}
 use Rattle.cov_port.specs.Taking.{IsFrontOf}
 use Rattle.cov_dat.specs.Reading.{reading}

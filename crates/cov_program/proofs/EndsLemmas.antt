@@ -1,5 +1,5 @@
 -- How a command ends, and what that leaves.
-use Rattle.std.proofs.Common.{◌≡◌, ℕ, ◌<◌, ◌≤◌, Bool, true, false, cond, List, [], ◌∷◌, ◌++◌, refl, sym, ◌∙◌, ap, subst, Option, None, Some, Result, Ok, Err, arith, inl, inr}
+use Rattle.std.proofs.Common.{◌≡◌, ℕ, true, false, cond, List, [], ◌∷◌, ◌++◌, refl, sym, ◌∙◌, ap, subst, Option, None, Some, Result, Ok, Err, arith, inl, inr}
 use Rattle.std.specs.Prelude.{IfSome, IsSomeAnd, nat_lt, length}
 use Rattle.std.specs.List.{flat_map}
 use Rattle.std.specs.Option.{option_map}
@@ -11,7 +11,7 @@ use Rattle.cov_dat.specs.Laws.{AddsOneByOne}
 use Rattle.cov_dat.specs.Merging.{Counts, merged}
 use Rattle.cov_dat.specs.declared.record_list.Record.{Record}
 use Rattle.cov_program.specs.Answer.{Answer, answer, command_answer, done_storing, file_arrivals, gathered, merge_answer, refused, stored_at}
-use Rattle.cov_program.specs.Continuing.{continued, files_outcome, InputRose, Refuses}
+use Rattle.cov_program.specs.Continuing.{files_outcome, InputRose, Refuses}
 use Rattle.cov_program.specs.Ending.{error_line, Unless}
 use Rattle.cov_program.specs.Ends.{Ends, IsAbsent, IsAnswered, IsWanting}
 use Rattle.cov_program.specs.Faults.{IsFault, open_failed, read_failed, store_failed, absent, Leaves, StoresAll, StoresFront, world}

@@ -1,5 +1,5 @@
 -- What stands where a call on files or output has failed.
-use Rattle.std.specs.Prelude.{◌≡◌, ℕ, ◌++◌, List, [], ◌∷◌, Bool, Option, None, Some, IfSome, IsSomeAnd, if◌then◌else◌}
+use Rattle.std.specs.Prelude.{◌≡◌, ℕ, ◌++◌, List, [], ◌∷◌, Option, Some, IfSome, IsSomeAnd, if◌then◌else◌}
 use Rattle.std.specs.Str.{bytes_eq}
 use Rattle.cov_port.specs.Causes.{Rose, IsQuiet, Both}
 use Rattle.cov_port.specs.Files.{Names, FileFaults, AllQuiet, OpensRose, ReadsRose, StoresRose, StoresPart}

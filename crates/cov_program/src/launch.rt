@@ -2,11 +2,10 @@ use crate::program::vcov;
 use crate::status::Status;
 use cov_port::{RealFiles, RealSink, put_all};
 use std::alloc::Global;
-use std::env;
 use std::env::Env;
 use std::io::{ErrorKind, Write};
-use std::rt;
 use std::thread::Threads;
+use std::{env, rt};
 
 /// Runs the program on the words of the command line, the files of the system and these two streams.
 ///

@@ -1,8 +1,8 @@
 //! Merging data files.
 
 use super::{Case, Setup, prepared, run, texts};
-use std::alloc::Global;
 use cov_program::Status;
+use std::alloc::Global;
 use std::process::Abort;
 use std::test::Fail;
 use std::thread::Threads;
@@ -18,12 +18,15 @@ const FULL: &[u8] =
 const HEADER: &[u8] = b"# SystemC::Coverage-3\n";
 
 /// Fields in another order, one of another tool, and lines that are skipped.
-const FOREIGN: &[u8] = b"# SystemC::Coverage-3\n\n# note\nC '\x01page\x02v_line/t\x01h\x02TOP.t\x01l\x02\x37\x01f\x02t.v\x01x\x02\x31' 12\n";
+const FOREIGN: &[u8] =
+    b"# SystemC::Coverage-3\n\n# note\nC '\x01page\x02v_line/t\x01h\x02TOP.t\x01l\x02\x37\x01f\x02t.v\x01x\x02\x31' 12\n";
 
-const FOREIGN_RECORD: &[u8] = b"# SystemC::Coverage-3\nC '\x01page\x02v_line/t\x01h\x02TOP.t\x01l\x02\x37\x01f\x02t.v\x01x\x02\x31' 12\n";
+const FOREIGN_RECORD: &[u8] =
+    b"# SystemC::Coverage-3\nC '\x01page\x02v_line/t\x01h\x02TOP.t\x01l\x02\x37\x01f\x02t.v\x01x\x02\x31' 12\n";
 
 /// Two keys against the order of bytes, one twice, counts with leading zeros.
-const MIXED: &[u8] = b"# SystemC::Coverage-3\nC '\x01f\x02b' 007\nC '\x01f\x02a' 0\nC '\x01f\x02b' 1\n";
+const MIXED: &[u8] =
+    b"# SystemC::Coverage-3\nC '\x01f\x02b' 007\nC '\x01f\x02a' 0\nC '\x01f\x02b' 1\n";
 
 const SORTED: &[u8] = b"# SystemC::Coverage-3\nC '\x01f\x02a' 0\nC '\x01f\x02b' 8\n";
 
@@ -35,11 +38,7 @@ const ONE: &[&str] = &["cover", "--write", "o.dat", "d.dat"];
 
 const PAIR: &[(&str, &[u8])] = &[("a.dat", THREE), ("b.dat", ALMOST)];
 
-fn done<'a>(
-    words: &'a [&'a str],
-    files: &'a [(&'a str, &'a [u8])],
-    stored: &'a [u8],
-) -> Case<'a> {
+fn done<'a>(words: &'a [&'a str], files: &'a [(&'a str, &'a [u8])], stored: &'a [u8]) -> Case<'a> {
     Case {
         words,
         files,
@@ -134,12 +133,7 @@ fn bad_input_stores_nothing(rt: HostRuntime) -> Result<(), Fail> {
 #[test]
 fn absent_files_and_bad_words_store_nothing(rt: HostRuntime) -> Result<(), Fail> {
     let alloc = rt.alloc();
-    let absent = refused(
-        MERGE,
-        &[("a.dat", THREE)],
-        Status::Fault,
-        b"vcov: Fault\n",
-    );
+    let absent = refused(MERGE, &[("a.dat", THREE)], Status::Fault, b"vcov: Fault\n");
     answers(&rt, alloc, &absent, 1)?;
     let wrong: [&[&str]; 9] = [
         &[],

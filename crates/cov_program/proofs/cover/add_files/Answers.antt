@@ -1,4 +1,4 @@
-use Rattle.std.proofs.Common.{◌≡◌, ◌+◌, List, ℕ, map, drop, string_bytes, sym, ap, subst, ◌∙◌, Option, Result}
+use Rattle.std.proofs.Common.{◌+◌, map, drop, string_bytes, sym, ap, subst, ◌∙◌, Option, Result}
 use Rattle.cov_dat.specs.Merging.{Counts}
 use Rattle.cov_program.specs.Continuing.{files_outcome, Refuses}
 use Rattle.cov_program.specs.declared.status.Status.{Status}

@@ -1,4 +1,4 @@
-use Rattle.std.proofs.Common.{◌≡◌, sym, ap, ◌∙◌, is_some, Err}
+use Rattle.std.proofs.Common.{sym, ap, ◌∙◌, is_some, Err}
 use Rattle.cov_dat.specs.Merging.{Counts}
 use Rattle.cov_dat.specs.declared.record_list.RecordList.{RecordList}
 use Rattle.cov_program.specs.Answer.{arrivals_of}
