@@ -1,0 +1,4 @@
+pub mod BitLemmas
+pub mod PartLaws
+pub mod SizeLaws
+pub mod Widths

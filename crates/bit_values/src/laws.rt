@@ -1,0 +1,94 @@
+//! Laws of the values that the calls compute, for the proofs of other crates: a call of one of these
+//! functions does nothing, and its contract is the law.
+
+ghost use Rattle.bit_values.specs.Laws.{ModuloFits, ExtendFits, ConcatFits, ReplaceFits, ExtendKeepsSigned, TruncateUndoesExtend, ExtendBits, ExtendZeros, ExtendSigns, TruncateBits, TruncateZeros, ConcatLowBits, ConcatHighBits, NotBits, ShlZeros, ShlBits, ShrBits, SarBits, SarSigns, SelectBits, SelectZeros, SelectPastTop, SelectBelow, SelectConcatHigh, SelectConcatLow, ReplacePartBits, ReplaceLowBits, ReplaceHighBits, ReplaceZeros, ReplacePastTop, ReplaceBelow, SelectReplaced, SelectBelowReplaced, SelectAboveReplaced};
+
+/// Results are values of their width.
+pub fn results_fit()
+    ensures modulo { ModuloFits }
+    ensures extend { ExtendFits }
+    ensures concat { ConcatFits }
+    ensures replace { ReplaceFits }
+{}
+
+/// Extension by the sign bit keeps the signed reading.
+pub fn extend_keeps_signed()
+    ensures { ExtendKeepsSigned }
+{}
+
+/// Truncation of an extension is the value.
+pub fn truncate_undoes_extend()
+    ensures { TruncateUndoesExtend }
+{}
+
+/// The bits of an extension.
+pub fn extend_bits()
+    ensures value { ExtendBits }
+    ensures zeros { ExtendZeros }
+    ensures signs { ExtendSigns }
+{}
+
+/// The bits of a truncation.
+pub fn truncate_bits()
+    ensures value { TruncateBits }
+    ensures zeros { TruncateZeros }
+{}
+
+/// The bits of a concatenation.
+pub fn concat_bits()
+    ensures low { ConcatLowBits }
+    ensures high { ConcatHighBits }
+{}
+
+/// The bits of a negation.
+pub fn not_bits()
+    ensures { NotBits }
+{}
+
+/// The bits of shifts.
+pub fn shift_bits()
+    ensures shl_zeros { ShlZeros }
+    ensures shl_value { ShlBits }
+    ensures shr_value { ShrBits }
+    ensures sar_value { SarBits }
+    ensures sar_signs { SarSigns }
+{}
+
+/// The bits of a selection.
+pub fn select_bits()
+    ensures value { SelectBits }
+    ensures zeros { SelectZeros }
+{}
+
+/// A selection outside the value is 0, however far outside it lies.
+pub fn select_outside()
+    ensures past_top { SelectPastTop }
+    ensures below { SelectBelow }
+{}
+
+/// The parts of a concatenation are selected from it.
+pub fn select_concat()
+    ensures high { SelectConcatHigh }
+    ensures low { SelectConcatLow }
+{}
+
+/// The bits of a replacement.
+pub fn replace_bits()
+    ensures part { ReplacePartBits }
+    ensures low { ReplaceLowBits }
+    ensures high { ReplaceHighBits }
+    ensures zeros { ReplaceZeros }
+{}
+
+/// A replacement outside the value changes nothing, however far outside it lies.
+pub fn replace_outside()
+    ensures past_top { ReplacePastTop }
+    ensures below { ReplaceBelow }
+{}
+
+/// A part is selected again from where it was put, and elsewhere the old bits are.
+pub fn select_replaced()
+    ensures part { SelectReplaced }
+    ensures below { SelectBelowReplaced }
+    ensures above { SelectAboveReplaced }
+{}
