@@ -1,6 +1,6 @@
 -- Decimal digits, one more at a time.
 use Rattle.std.proofs.Common.{◌≡◌, ℕ, ◌+◌, ◌-◌, ◌*◌, ◌^◌, ◌<◌, ◌≤◌, List, ◌∷◌, length, ap, add-one, arith}
-use Rattle.std.proofs.Math.Nat.{add-mul, mul_assoc, pow-suc}
+use Rattle.std.proofs.Math.Nat.{add-mul, mul_assoc, pow-suc, pow-le-pow_right}
 use Rattle.cov_port.specs.Decimal.{value_of}
 
 -- a digit read behind a number counts at its own place
@@ -12,3 +12,9 @@ digit_more v b bs =
 -- one more digit takes at most one more place
 pub place_more : (v d i : ℕ) → v < 10 ^ i → d ≤ 9 → 10 * v + d < 10 ^ (i + 1)
 place_more v d i below digit = rw add-one (omega (arith, pow-suc 10 i))
+
+-- a number of at most 19 digits fits 64 bits
+pub nineteen_fit : (n i : ℕ) → n < 10 ^ i → i ≤ 19 → n < 2 ^ 64
+nineteen_fit n i below short =
+    let most : 10 ^ i ≤ 10 ^ 19 = pow-le-pow_right {n = 10} (omega arith) {i = i} {j = 19} short in
+    omega arith

@@ -102,10 +102,10 @@ key_from_completes [] e = no e
 key_from_completes (b ∷ bs) e = start_step b bs (eqb b 1) refl e
 
 -- a byte of a name or a value is neither 1 nor 2
-not_one : (b : ℕ) → is_mark b ≡ false → eqb b 1 ≡ false
+pub not_one : (b : ℕ) → is_mark b ≡ false → eqb b 1 ≡ false
 not_one b = elim (eqb b 1) as (λ t. (t || (eqb b 2 || eqb b 10)) ≡ false → t ≡ false) [ true ↦ λ e. no (sym e) | false ↦ λ e. refl ]
 
-not_two : (b : ℕ) → is_mark b ≡ false → eqb b 2 ≡ false
+pub not_two : (b : ℕ) → is_mark b ≡ false → eqb b 2 ≡ false
 not_two b = elim (eqb b 1) as (λ s. (s || (eqb b 2 || eqb b 10)) ≡ false → eqb b 2 ≡ false) [
   | true ↦ λ e. no (sym e)
   | false ↦ elim (eqb b 2) as (λ t. (t || eqb b 10) ≡ false → t ≡ false) [ true ↦ λ e. no (sym e) | false ↦ λ e. refl ]

@@ -4,7 +4,6 @@ pub mod Sinks
 pub mod Decimal
 pub mod Key
 pub mod KeyTest
-pub mod KeyPart
 pub mod Memory
 pub mod Spans
 pub mod Taking
