@@ -1,8 +1,11 @@
-use Rattle.std.proofs.Common.{◌≡◌, ℕ, zero, suc, ◌+◌, ◌^◌, ◌<◌, Bool, true, false, not, cond, is_some, nat_lt, ◌||◌, length, arith, List, [], ◌∷◌, ◌++◌, slice_get, position, refl, sym, ◌∙◌, ap, subst, Option, None, Some}
+use Rattle.std.proofs.Common.{◌≡◌, ℕ, zero, suc, ◌+◌, ◌^◌, ◌<◌, true, false, not, cond, is_some, ◌||◌, length, arith, List, [], ◌∷◌, ◌++◌, slice_get, refl, sym, ◌∙◌, ap, subst, Option, None, Some, option_map}
 use Rattle.std.specs.Str.{bytes_eq}
-use Rattle.std.specs.List.{AllByRecursion, list_any, position_or_len}
+use Rattle.std.specs.List.{AllByRecursion, IsDistinct, list_any}
 use Rattle.std.specs.Map.{lookup, values_of}
 use Rattle.std.proofs.lemmas.Bool.{false≢true, true≢false}
+use Rattle.std.proofs.lemmas.Cmp.{nat_list_eq_equiv}
+use Rattle.std.proofs.lemmas.Option.{slice_get-map}
+use Rattle.std.proofs.lemmas.Slice.Eq.{bytes_eq-Decides}
 use Rattle.indexmap.specs.IndexMap.{set_value_at}
 use Rattle.cov_dat.specs.Merging.{Counts, added, key_bytes, keys_of, limit_passed, number_of, saturated}
 use Rattle.cov_dat.specs.KeyTable.{has_key, limit_at, raised_at}
@@ -56,20 +59,11 @@ has_key-any (e ∷ es) key =
       | false ↦ has_key-any es key
     ]
 
--- where a key is found is its number
-pub number_of-found : {X : Type 0} (test : X → Bool) (xs : List X) (i : ℕ) → position test xs ≡ Some i → position_or_len test xs ≡ i
-number_of-found test xs i = elim (nat_lt (position_or_len test xs) (length xs)) as (λ t. cond t (Some (position_or_len test xs)) None ≡ Some i → position_or_len test xs ≡ i) [
-  | true ↦ λ h. cc
-  | false ↦ λ h. absurd (cc)
-]
-
--- to raise a count adds no key
 pub length-raised : (es : Counts) (number count : ℕ) → length (raised_at es number count) ≡ length es
 length-raised [] number count = refl
 length-raised (e ∷ es) zero count = refl
 length-raised (e ∷ es) (suc number) count = ap suc (length-raised es number count)
 
--- nor any bytes of keys
 pub key_bytes-raised : (es : Counts) (number count : ℕ) → key_bytes (raised_at es number count) ≡ key_bytes es
 key_bytes-raised [] number count = refl
 key_bytes-raised (e ∷ es) zero count = refl
@@ -79,12 +73,10 @@ key_bytes-raised (e ∷ es) (suc number) count = ap (λ (n : ℕ). length e.0 + 
 pub limit_passed-raised : (es : Counts) (number count : ℕ) → limit_passed (raised_at es number count) ≡ limit_passed es
 limit_passed-raised es number count = rw (length-raised es number count, key_bytes-raised es number count) refl
 
--- an entry more is one key more
 pub length-pushed : (es : Counts) (key : List ℕ) (count : ℕ) → length (es ++ (key, count) ∷ []) ≡ length es + 1
 length-pushed [] key count = refl
 length-pushed (e ∷ es) key count = let rest = length-pushed es key count in omega arith
 
--- with its bytes
 pub key_bytes-pushed : (es : Counts) (key : List ℕ) (count : ℕ) → key_bytes (es ++ (key, count) ∷ []) ≡ key_bytes es + length key
 key_bytes-pushed [] key count = omega arith
 key_bytes-pushed (e ∷ es) key count = let rest = key_bytes-pushed es key count in omega arith
@@ -106,12 +98,9 @@ pub limit_passed-counted : (es : Counts) (key : List ℕ) (count keys bytes : �
     → limit_passed (added es key count) ≡ limit_at (keys + 1) (bytes + length key)
 limit_passed-counted es key count keys bytes new len held = rw (len, held) (limit_passed-new es key count new)
 
--- to raise what a look-up found is to add
-pub raised-is-added : (es : Counts) (sought key : List ℕ) (number count : ℕ) → sought ≡ key → position (bytes_eq sought) (keys_of es) ≡ Some number → has_key es key ≡ true
-    → raised_at es number count ≡ added es key count
-raised-is-added es sought key number count same at has =
-    let is : number_of es key ≡ number = ap (number_of es) (sym same) ∙ number_of-found (bytes_eq sought) (keys_of es) number at in
-    sym (added-present es key count has ∙ ap (λ (n : ℕ). raised_at es n count) is)
+-- to raise a key that stands is to add
+pub raised-is-added : (es : Counts) (key : List ℕ) (number count : ℕ) → number_of es key ≡ number → has_key es key ≡ true → raised_at es number count ≡ added es key count
+raised-is-added es key number count is has = sym (added-present es key count has ∙ ap (λ (n : ℕ). raised_at es n count) is)
 
 -- to append a new key is to add
 pub appended-is-added : (es : Counts) (key : List ℕ) (count : ℕ) → has_key es key ≡ false → count < 2 ^ 64 → es ++ (key, count) ∷ [] ≡ added es key count
@@ -120,10 +109,6 @@ appended-is-added es key count new small = ap (λ (n : ℕ). es ++ (key, n) ∷ 
 -- a key that stands adds no bytes
 pub key_bytes-present : (es : Counts) (key : List ℕ) (count : ℕ) → has_key es key ≡ true → key_bytes (added es key count) ≡ key_bytes es
 key_bytes-present es key count has = ap key_bytes (added-present es key count has) ∙ key_bytes-raised es (number_of es key) count
-
--- what a look-up doesn't find is new
-pub new-from_look_up : (es : Counts) (sought key : List ℕ) (found : Option ℕ) → sought ≡ key → is_some found ≡ has_key es sought → found ≡ None → has_key es key ≡ false
-new-from_look_up es sought key found same is none = subst (λ (k : List ℕ). has_key es k ≡ false) same (sym is ∙ ap is_some none)
 
 -- no value is there where `is_some` says so
 pub none_is : {X : Type 0} (o : Option X) → is_some o ≡ false → o ≡ None
@@ -144,3 +129,17 @@ pub holds-at : {X : Type 0} (P : X → Type 0) (xs : List X) (i : ℕ) (x : X) �
 holds-at P [] i x all at = absurd (cc)
 holds-at P (y ∷ ys) zero x all at = let same : y ≡ x = cc in subst P same all.0
 holds-at P (y ∷ ys) (suc i) x all at = holds-at P ys i x all.1 at
+
+-- a key that stands at a number has that number
+pub number_of-at : (es : Counts) (i count : ℕ) (key : List ℕ) → IsDistinct bytes_eq (keys_of es) → slice_get es i ≡ Some (key, count) → (number_of es key ≡ i) × (has_key es key ≡ true)
+unfolding IsDistinct
+number_of-at [] i count key distinct at = absurd (cc)
+number_of-at (e ∷ es) zero count key distinct at =
+    let same : e ≡ (key, count) = cc in
+    let yes : bytes_eq key e.0 ≡ true = (bytes_eq-Decides key e.0).1 (sym (ap (λ (x : List ℕ × ℕ). x.0) same)) in
+    (rw yes refl, rw yes refl)
+number_of-at (e ∷ es) (suc i) count key distinct at =
+    let rest = number_of-at es i count key distinct.1 at in
+    let there : slice_get (keys_of es) i ≡ Some key = slice_get-map (λ (x : List ℕ × ℕ). x.0) es i ∙ ap (option_map (λ (x : List ℕ × ℕ). x.0)) at in
+    let no : bytes_eq key e.0 ≡ false = nat_list_eq_equiv.symm key e.0 ∙ holds-at (λ y. bytes_eq e.0 y ≡ false) (keys_of es) i key distinct.0 there in
+    (rw no (omega (arith, rest.0)), rw no rest.1)

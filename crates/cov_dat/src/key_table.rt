@@ -1,5 +1,5 @@
-ghost use Rattle.std.specs.Prelude.{◌≡◌, ◌≤◌, ◌<◌, ◌+◌, ◌∷◌, ◌++◌, [], length, OnOk, OnErr, false};
-ghost use Rattle.cov_dat.specs.Merging.{saturated};
+ghost use Rattle.std.specs.Prelude.{◌≡◌, ◌≤◌, ◌<◌, ◌+◌, ◌∷◌, ◌++◌, [], length, is_some, IfOk, IfSome, OnOk, OnErr, true, false};
+ghost use Rattle.cov_dat.specs.Merging.{number_of, saturated};
 ghost use Rattle.cov_dat.specs.KeyTable.{has_key, limit_at, raised_at};
 
 use crate::byte_key::Key;
@@ -30,6 +30,39 @@ fn sum_of(before: u64, count: u64) -> u64
     ensures { result ≡ saturated (before + count) }
 {
     before.saturating_add(count)
+}
+
+/// The number of the key, if it stands. `sought` is written over.
+///
+/// The key with the number `next` is tried first, since files mostly have their keys in one order.
+pub(crate) fn look_up(
+    counts: &IndexMap<Key, u64>,
+    sought: &mut Key,
+    next: usize,
+    key: &[u8],
+) -> Result<Option<usize>, AllocError>
+    ensures found { IfOk result (λ found. is_some found ≡ has_key counts.now.entries key.now) }
+    ensures number { IfOk result (λ found. IfSome found (λ number. number_of counts.now.entries key.now ≡ number)) }
+    ensures within { IfOk result (λ found. IfSome found (λ number. number < length counts.now.entries)) }
+{
+    if stands_at(counts, next, key) {
+        return Ok(Some(next));
+    }
+    sought.refill(key)?;
+    Ok(counts.get_index_of(&*sought))
+}
+
+/// Whether the key stands with this number.
+fn stands_at(counts: &IndexMap<Key, u64>, number: usize, key: &[u8]) -> bool
+    ensures found { result ≡ true → has_key counts.now.entries key.now ≡ true }
+    ensures number { result ≡ true → number_of counts.now.entries key.now ≡ number }
+    ensures within { result ≡ true → number < length counts.now.entries }
+{
+    if number >= counts.len() {
+        return false;
+    }
+    let (stored, _) = counts.get_index(number).unwrap();
+    stored.as_slice() == key
 }
 
 /// Adds a count to the key with this number.

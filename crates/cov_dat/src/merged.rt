@@ -9,7 +9,7 @@ ghost use Rattle.cov_dat.specs.declared.merge_fault.MergeFault.TheVariants.{Limi
 
 use crate::byte_key::Key;
 use crate::data_text::data_text;
-use crate::key_table::{append, limit_at, raise};
+use crate::key_table::{append, limit_at, look_up, raise};
 use crate::merge_fault::MergeFault;
 use cov_port::{ByteText, NoMemory};
 use indexmap::IndexMap;
@@ -31,6 +31,8 @@ pub struct Merged {
     bytes_held: usize,
     // The key that is looked up. It keeps its memory from one look-up to the next.
     sought: Key,
+    // The number behind that of the key that was added last.
+    next: usize,
 }
 
 impl Model for Merged {
@@ -58,6 +60,7 @@ impl Merged {
             counts: IndexMap::new(alloc),
             bytes_held: 0,
             sought: Key::new(alloc),
+            next: 0,
         })
     }
 
@@ -73,10 +76,10 @@ impl Merged {
         ensures limit { (name : LimitName) → IsErrOf result (MergeFault.Limit name) → limit_passed (added self.old key.now count) ≡ Some name }
         ensures within { OnOk result (limit_passed (added self.old key.now count) ≡ None) }
     {
-        self.sought.refill(key)?;
-        match self.counts.get_index_of(&self.sought) {
+        match look_up(&self.counts, &mut self.sought, self.next, key)? {
             Some(number) => {
                 raise(&mut self.counts, number, count);
+                self.next = number + 1;
                 Ok(number as u32)
             }
             None => {
@@ -87,6 +90,7 @@ impl Merged {
                 }
                 append(self.alloc, &mut self.counts, key, count)?;
                 self.bytes_held = bytes_held;
+                self.next = number + 1;
                 Ok(number as u32)
             }
         }

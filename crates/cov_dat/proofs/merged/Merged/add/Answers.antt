@@ -1,21 +1,18 @@
-use Rattle.std.proofs.Common.{rules, ◌≡◌, ℕ, ◌+◌, List, length, true, false, is_some, None, sym, ap, subst, ◌∙◌}
+use Rattle.std.proofs.Common.{rules, ◌≡◌, ℕ, ◌+◌, length, true, false, is_some, None, sym, ap, subst, ◌∙◌}
 use Rattle.std.specs.List.{AllByRecursion}
 use Rattle.cov_port.specs.Key.{IsKey}
 use Rattle.cov_dat.specs.Merging.{Counts, added, key_bytes, limit_passed}
 use Rattle.cov_dat.specs.KeyTable.{has_key}
 use Rattle.cov_dat.proofs.FaultLemmas.{limit-of_limit}
-use Rattle.cov_dat.proofs.MergingLemmas.{all-added, appended-is-added, key_bytes-present, key_bytes-pushed, limit_passed-counted, limit_passed-present, new-from_look_up, number_of-new, raised-is-added}
+use Rattle.cov_dat.proofs.MergingLemmas.{all-added, appended-is-added, key_bytes-present, key_bytes-pushed, limit_passed-counted, limit_passed-present, number_of-new, raised-is-added}
 use Rattle.cov_dat.proofs.merged.Merged.add.Goals as goal
 
 -- where the key stands
-sought-is : (c : goal.After-raise) → c.refill.new.self ≡ c.args.key.now
-sought-is c = search rules
+stands : (c : goal.After-self-1) → has_key c.self.inside.counts.entries c.args.key.now ≡ true
+stands c = sym c.in_ok-number.ensures.found ∙ ap is_some c.in-Some.is
 
-stands : (c : goal.After-raise) → has_key c.self.inside.counts.entries c.args.key.now ≡ true
-stands c = subst (λ (k : List ℕ). has_key c.self.inside.counts.entries k ≡ true) (sought-is c) (sym c.get_index_of.ensures.found ∙ ap is_some c.in-Some.is)
-
-raised-is : (c : goal.After-raise) → c.raise.new.counts.entries ≡ added c.self.inside.counts.entries c.args.key.now c.args.count
-raised-is c = c.raise.ensures ∙ raised-is-added c.self.inside.counts.entries c.refill.new.self c.args.key.now c.in-Some.number c.args.count (sought-is c) (sym c.get_index_of.ensures.index ∙ c.in-Some.is) (stands c)
+raised-is : (c : goal.After-self-1) → c.raise.new.counts.entries ≡ added c.self.inside.counts.entries c.args.key.now c.args.count
+raised-is c = c.raise.ensures ∙ raised-is-added c.self.inside.counts.entries c.args.key.now c.in-Some.number c.args.count (rw c.in-Some.is at c.in_ok-number.ensures.number) (stands c)
 
 pub invariant_of-self-in-Some : goal.invariant_of-self-in-Some
 invariant_of-self-in-Some c =
@@ -38,18 +35,18 @@ pub returns-in-Some-limit_at-clause-limit : goal.returns-in-Some-limit_at-clause
 returns-in-Some-limit_at-clause-limit c =
     let es = c.self.inside.counts.entries in
     let key = c.args.key.now in
-    let new = new-from_look_up es c.refill.new.self key c.get_index_of.result (search rules) c.get_index_of.ensures.found c.in-None.is in
+    let new : has_key es key ≡ false = sym c.in_ok-number.ensures.found ∙ ap is_some c.in-None.is in
     let passed = limit_passed-counted es key c.args.count c.len-number.result c.self.inside.bytes_held new c.len-number.ensures.len c.self.invariant.1 in
     rw (← c.self.view_is) (limit-of_limit c.in-Some-limit_at.name _ (passed ∙ sym c.limit_at.ensures ∙ c.in-Some-limit_at.is))
 
 -- where the key is new and stands afterwards
-is-new : (c : goal.After-self-1) → has_key c.self.inside.counts.entries c.args.key.now ≡ false
-is-new c = new-from_look_up c.self.inside.counts.entries c.refill.new.self c.args.key.now c.get_index_of.result (search rules) c.get_index_of.ensures.found c.in-None.is
+is-new : (c : goal.After-self-in-None-2-1) → has_key c.self.inside.counts.entries c.args.key.now ≡ false
+is-new c = sym c.in_ok-number.ensures.found ∙ ap is_some c.in-None.is
 
-appended-is : (c : goal.After-self-1) → c.append.new.counts.entries ≡ added c.self.inside.counts.entries c.args.key.now c.args.count
+appended-is : (c : goal.After-self-in-None-2-1) → c.append.new.counts.entries ≡ added c.self.inside.counts.entries c.args.key.now c.args.count
 appended-is c = c.in_ok-append-in-None.ensures.ok ∙ appended-is-added c.self.inside.counts.entries c.args.key.now c.args.count (is-new c) (search rules)
 
-none-passed : (c : goal.After-self-1) → limit_passed (added c.self.inside.counts.entries c.args.key.now c.args.count) ≡ None
+none-passed : (c : goal.After-self-in-None-2-1) → limit_passed (added c.self.inside.counts.entries c.args.key.now c.args.count) ≡ None
 none-passed c = limit_passed-counted c.self.inside.counts.entries c.args.key.now c.args.count c.len-number.result c.self.inside.bytes_held (is-new c) c.len-number.ensures.len c.self.invariant.1
     ∙ sym c.limit_at.ensures ∙ c.in_default.is
 
