@@ -1,4 +1,5 @@
 ghost use Rattle.std.specs.Prelude.{◌≡◌, ◌≤◌, ◌<◌, ◌+◌, ◌∷◌, length, IfOk, IfSome, IsErrOf};
+ghost use Rattle.memchr.specs.Find.{is_byte, IsLastByte};
 ghost use Rattle.cov_port.specs.Key.{IsKey};
 ghost use Rattle.cov_dat.specs.Lines.{lines_of};
 ghost use Rattle.cov_dat.specs.DataLine.{at_last_quote, bytes_of, count_after, is_skipped, says, says_record, says_within};
@@ -119,8 +120,14 @@ fn read_record(number: u64, line: &[u8]) -> Result<Option<(&[u8], u64)>, DataFau
 fn split_quote(text: &[u8]) -> Option<(&[u8], &[u8])>
     ensures { seen_parts result ≡ at_last_quote text.now }
 {
-    let at = memrchr(b'\'', text)?;
+    let at = last_quote(text)?;
     Some((&text[..at], &text[at + 1..]))
+}
+
+fn last_quote(text: &[u8]) -> Option<usize>
+    ensures { IsLastByte (is_byte 39) text.now result }
+{
+    memrchr(b'\'', text)
 }
 
 fn read_count(text: &[u8]) -> Option<u64>

@@ -1,4 +1,4 @@
-ghost use Rattle.std.specs.Prelude.{◌≡◌, map, string_bytes, Ok, Err, OnOk, IfErr, IfSome, IsErrOf};
+ghost use Rattle.std.specs.Prelude.{◌≡◌, nat_lt, length, map, string_bytes, Ok, Err, OnOk, IfErr, IfSome, IsErrOf};
 ghost use Rattle.std.specs.Option.{option_map};
 ghost use Rattle.cov_dat.specs.Reading.{reading};
 ghost use Rattle.cov_program.specs.Answer.{arrivals_of, done_storing, merge_answer, status_of};
@@ -97,13 +97,19 @@ fn add_files<F: Files>(
     Ok(())
 }
 
+fn are_too_many(names: &[String]) -> bool
+    ensures { result ≡ nat_lt 4096 (length names.now) }
+{
+    names.len() > MOST_FILES
+}
+
 /// Merges the data files and stores what they come to.
 pub(crate) fn merge<F: Files>(alloc: Global, files: &mut F, merge: Merge<'_>) -> Status
     ensures ends { Ends (option_map (λ held. merge_answer held (seen_merge merge.entry)) (F.held files.old)) (F.held files.old) (F.held files.new) (F.faults files.old) (F.faults files.new) result }
     ensures no_words { result ≡ Status.BadWords → ⊥ }
 {
     adding_gives_the_sums();
-    if merge.files.len() > MOST_FILES {
+    if are_too_many(merge.files) {
         return Status::Limit;
     }
     let mut merged = match Merged::new(alloc) {

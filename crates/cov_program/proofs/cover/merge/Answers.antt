@@ -1,6 +1,5 @@
-use Rattle.std.proofs.Common.{◌≡◌, ◌≤◌, false, length, map, Option, Global, string_bytes, sym, subst, arith}
+use Rattle.std.proofs.Common.{◌≡◌, ℕ, false, length, Option, Global, string_bytes, ap, sym, subst, ◌∙◌}
 use Rattle.std.specs.Prelude.{nat_lt}
-use Rattle.std.proofs.lemmas.Bool.{le-ltb}
 use Rattle.std.proofs.lemmas.List.{length-map}
 use Rattle.cov_program.specs.Answer.{Answer}
 use Rattle.cov_program.specs.Ends.{Ends}
@@ -10,8 +9,8 @@ use Rattle.cov_program.proofs.EndsLemmas.{merge-ends, merge-read}
 use Rattle.cov_program.proofs.cover.merge.Goals as goal
 
 -- no more files than are read
-few : (merge : Merge) → length merge.files.now ≤ 4096 → nat_lt 4096 (length (seen_merge merge).files) ≡ false
-few merge within = le-ltb 4096 (length (map string_bytes merge.files.now)) (omega (arith, length-map merge.files.now (string_bytes {Z = Global})))
+few : (merge : Merge) → nat_lt 4096 (length merge.files.now) ≡ false → nat_lt 4096 (length (seen_merge merge).files) ≡ false
+few merge within = ap (λ (n : ℕ). nat_lt 4096 n) (length-map merge.files.now (string_bytes {Z = Global})) ∙ within
 
 pub returns-in-Ok-add_files-clause-ends : goal.returns-in-Ok-add_files-clause-ends
 returns-in-Ok-add_files-clause-ends g c =
@@ -20,9 +19,9 @@ returns-in-Ok-add_files-clause-ends g c =
     let read = rw c.in-Ok.ensures at c.in-Ok-add_files.ensures.ok in
     let ends = rw (c.in-Ok-add_files.ensures.held, c.in-Ok-add_files.ensures.ok_quiet) at c.store_merged.ensures.ends in
     subst (λ (told : Option Answer). Ends told held (g.F.Files.held c.store_merged.new.files) faults (g.F.Files.faults c.store_merged.new.files) c.store_merged.result)
-    (sym (merge-read c.adding_gives_the_sums.ensures held (seen_merge c.args.merge) c.add_files.new.merged (few c.args.merge c.if-merge-gt-MOST_FILES.false) read)) ends
+    (sym (merge-read c.adding_gives_the_sums.ensures held (seen_merge c.args.merge) c.add_files.new.merged (few c.args.merge (sym c.are_too_many.ensures ∙ c.if-are_too_many.false)) read)) ends
 
 pub returns-clause-ends : goal.returns-clause-ends
 returns-clause-ends g c =
     merge-ends c.adding_gives_the_sums.ensures (g.F.Files.held c.args.files.now) (g.F.Files.held c.add_files.new.files) (g.F.Files.faults c.args.files.now) (g.F.Files.faults c.add_files.new.files)
-    (seen_merge c.args.merge) c.in-Err-add_files.status (few c.args.merge c.if-merge-gt-MOST_FILES.false) c.in-Err-add_files.ensures.held (rw c.in-Ok.ensures at c.in-Err-add_files.ensures.err)
+    (seen_merge c.args.merge) c.in-Err-add_files.status (few c.args.merge (sym c.are_too_many.ensures ∙ c.if-are_too_many.false)) c.in-Err-add_files.ensures.held (rw c.in-Ok.ensures at c.in-Err-add_files.ensures.err)
