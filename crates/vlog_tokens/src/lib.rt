@@ -1,0 +1,9 @@
+//! The tokens of Verilog text.
+#![tactic(auto)]
+
+mod sending;
+mod token;
+mod token_list;
+
+pub use token::{Token, TokenKind};
+pub use token_list::TokenList;
