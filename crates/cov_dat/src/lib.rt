@@ -12,6 +12,7 @@ mod merge_fault;
 mod merged;
 mod read;
 mod record_list;
+mod shared;
 mod text_reader;
 
 pub use fault::DataFault;
