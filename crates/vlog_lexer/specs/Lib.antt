@@ -3,6 +3,7 @@ pub mod Bytes
 pub mod Comments
 pub mod Examples
 pub mod Faults
+pub mod Identifier
 pub mod Inside
 pub mod LateKinds
 pub mod Limits

@@ -27,7 +27,7 @@ pub(crate) fn begins_name(byte: u8) -> bool
 }
 
 #[tactic(auto, unfolding(crate::specs::Bytes::continues_name))]
-fn continues_name(byte: u8) -> bool
+pub(crate) fn continues_name(byte: u8) -> bool
     ensures { result ≡ spec.continues_name byte }
 {
     byte.is_ascii_alphanumeric() || byte == b'_' || byte == b'$'

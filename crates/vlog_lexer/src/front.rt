@@ -43,7 +43,7 @@ fn name_piece(alloc: Global, text: &[u8]) -> Result<Piece, Stop>
 }
 
 #[tactic(auto, unfolding(crate::specs::Pieces::begins_with_name))]
-fn begins_with_name(text: &[u8]) -> bool
+pub(crate) fn begins_with_name(text: &[u8]) -> bool
     ensures { result ≡ spec.begins_with_name text.now }
 {
     match text {
