@@ -1,0 +1,4 @@
+pub mod BehindLemmas
+pub mod ShortLemmas
+pub mod LawLemmas
+pub mod SignLemmas

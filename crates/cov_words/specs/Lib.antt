@@ -1,0 +1,9 @@
+pub mod Command
+pub mod Cut
+pub mod Examples
+pub mod Left
+pub mod Pieces
+pub mod Seen
+pub mod SeenCommand
+pub mod Table
+pub mod Values

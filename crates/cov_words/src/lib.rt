@@ -1,0 +1,20 @@
+//! The words of a command line, and the command that they spell.
+#![tactic(auto)]
+
+mod arguments;
+mod command;
+mod front;
+mod given;
+mod law;
+mod names;
+mod piece;
+mod reading;
+mod table;
+#[cfg(test)]
+mod tests;
+mod values;
+
+pub use command::{Build, Command, Cover, Sim};
+pub use law::pieces_are_the_cut;
+pub use names::Names;
+pub use reading::read_words;
