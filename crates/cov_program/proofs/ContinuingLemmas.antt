@@ -1,20 +1,23 @@
 -- The merge from one arrival to the next.
-use Rattle.std.proofs.Common.{◌≡◌, ℕ, ◌+◌, ◌<◌, true, false, cond, is_some, List, [], ◌∷◌, ◌++◌, map, drop, length, get_or, drop-cons, add-one, String, Global, string_bytes, refl, sym, ◌∙◌, ap, Option, None, Some, Result, Ok, Err, inl, inr}
+use Rattle.std.proofs.Common.{◌≡◌, ℕ, true, false, cond, is_some, List, [], ◌∷◌, ◌++◌, refl, sym, ◌∙◌, ap, Option, None, Some, Result, Ok, Err, inl, inr}
 use Rattle.std.specs.Prelude.{IfSome, IsSomeAnd, IfErr, IsErrOf}
 use Rattle.std.specs.List.{flat_map}
 use Rattle.cov_port.specs.Files.{Names, FileFaults}
 use Rattle.cov_port.specs.Taking.{IsFrontOf}
+use Rattle.cov_port.specs.declared.take.TakeFault.{TakeFault}
+use Rattle.cov_port.specs.declared.take.TakeFault.TheVariants.{OpenFailed, ReadFailed, NoMemory as no_memory}
 use Rattle.cov_dat.specs.Reading.{reading}
 use Rattle.cov_dat.specs.FrontLaw.{ReadsByFront}
 use Rattle.cov_dat.specs.Laws.{AddsOneByOne}
 use Rattle.cov_dat.specs.Merging.{Counts, added, limit_passed, merged}
 use Rattle.cov_dat.specs.declared.record_list.Record.{Record}
 use Rattle.cov_dat.specs.declared.record_list.RecordList.{RecordList}
-use Rattle.cov_program.specs.Answer.{Arrival, arrived, stopped, arrivals_of, file_arrivals, gathered}
+use Rattle.cov_program.specs.MergeAnswer.{Arrival, arrived, stopped, arrivals_of, file_arrivals, gathered}
 use Rattle.cov_program.specs.Continuing.{continued, file_outcome, files_outcome, Refuses}
-use Rattle.cov_program.specs.Ending.{Unless}
+use Rattle.cov_program.specs.Ending.{Unless, unread_status}
 use Rattle.cov_program.specs.declared.status.Status.{Status}
 use Rattle.cov_program.specs.declared.status.Status.TheVariants.{Done, BadWords, BadDesign, BadStimulus, BadData, Fault, Limit, NoMemory, Stopped}
+use Rattle.cov_program.proofs.UnreadLemmas.{Untaken, unopened}
 
 -- a record within the limits goes on
 pub continued-within : (counts : Counts) (r : Record) (rest : List Arrival) → limit_passed (added counts r.key r.count) ≡ None
@@ -117,12 +120,22 @@ refuses-files held counts name names before now Limit r = record { quiet = r.qui
 refuses-files held counts name names before now NoMemory r = r
 refuses-files held counts name names before now Stopped r = record { quiet = r.quiet; outcome = if_err held counts name names Stopped r.outcome }
 
--- the names from one on
-pub names_from : (names : List (String Global)) (i : ℕ) (name : String Global) → i < length names → name ≡ get_or names i name
-    → map string_bytes (drop i names) ≡ string_bytes name ∷ map string_bytes (drop (i + 1) names)
-names_from names i name within is = ap (map string_bytes) (drop-cons names i name within) ∙ rw (← is, add-one) refl
-
 -- a refusal that is no fault
 pub if_err-but : {T : Type 0} (r : Result T Status) (P : Status → Type 0) → IfErr r P → (IsErrOf r Fault → ⊥) → IfErr r (λ status. P status × (status ≡ Fault → ⊥))
 if_err-but (Ok v) P is other = tt
 if_err-but (Err status) P is other = (is, λ e. other (ap Err e))
+
+absent-outcome : (held : Option Names) (name : List ℕ) (counts : Counts) → IsSomeAnd held (λ names. names name ≡ None) → IsSomeAnd (file_outcome held counts name) (λ o. o ≡ Err Fault)
+absent-outcome None name counts is = is
+absent-outcome (Some names) name counts is = ap (λ (o : Option (List ℕ)). continued counts (file_arrivals o)) is
+
+-- a file that could not be taken
+pub refuses-untaken : (held : Option Names) (name : List ℕ) (counts : Counts) (before now : FileFaults) (fault : TakeFault) → Untaken held name before now fault
+    → Refuses (file_outcome held counts name) before now (unread_status fault)
+refuses-untaken held name counts before now OpenFailed is =
+    elim (unopened held name before now (is.open_failed refl)) [
+      | inl rose ↦ inl (inl rose)
+      | inr lacking ↦ inr (record { quiet = lacking.0; outcome = absent-outcome held name counts lacking.1 })
+    ]
+refuses-untaken held name counts before now ReadFailed is = inl (inr (is.read_failed refl))
+refuses-untaken held name counts before now no_memory is = is.no_memory refl

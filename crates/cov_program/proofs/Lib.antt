@@ -1,2 +1,10 @@
+pub mod AgreeLemmas
+pub mod CheckLemmas
 pub mod ContinuingLemmas
-pub mod EndsLemmas
+pub mod DesignLemmas
+pub mod LeavesLemmas
+pub mod MergeLemmas
+pub mod NamesLemmas
+pub mod ProgramLemmas
+pub mod RefusalLemmas
+pub mod UnreadLemmas

@@ -2,9 +2,10 @@
 use Rattle.std.specs.Prelude.{◌≡◌, List, [], ◌∷◌, Option, Result, Ok, Err, IfSome, IsSomeAnd, is_some, ◌⊎◌, ℕ, if◌then◌else◌}
 use Rattle.std.specs.List.{flat_map}
 use Rattle.std.specs.Option.{option_map}
-use Rattle.cov_port.specs.Files.{Names, FileFaults, OpensRose, ReadsRose}
+use Rattle.cov_port.specs.Files.{Names, FileFaults}
 use Rattle.cov_dat.specs.Merging.{Counts, added, limit_passed}
-use Rattle.cov_program.specs.Answer.{Arrival, arrived, stopped, file_arrivals}
+use Rattle.cov_program.specs.Ends.{InputRose}
+use Rattle.cov_program.specs.MergeAnswer.{Arrival, arrived, stopped, file_arrivals}
 use Rattle.cov_program.specs.declared.status.Status.{Status}
 use Rattle.cov_program.specs.declared.status.Status.TheVariants.{Done, BadWords, BadDesign, BadStimulus, BadData, Fault, Limit, NoMemory, Stopped}
 
@@ -15,10 +16,6 @@ continued counts (stopped status ∷ rest) = Err status
 continued counts (arrived r ∷ rest) =
     if is_some (limit_passed (added counts r.key r.count)) then Err Limit
     else continued (added counts r.key r.count) rest
-
--- the number of `open` or that of `read` rose, and no other
-abbrev pub InputRose : FileFaults → FileFaults → Type 0
-InputRose before now = OpensRose before now ⊎ ReadsRose before now
 
 -- the outcome is this refusal, where the files tell it, and no number changed
 pub record IsRefusal (told : Option (Result Counts Status)) (before now : FileFaults) (status : Status) : Type 0 where

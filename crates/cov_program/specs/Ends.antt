@@ -1,12 +1,15 @@
--- How a command on files ends, apart from what it prints.
+-- How a merge ends, apart from what it prints.
 use Rattle.std.specs.Prelude.{◌≡◌, Option, IfSome, IsSomeAnd, ◌⊎◌}
 use Rattle.cov_port.specs.Causes.{Both}
-use Rattle.cov_port.specs.Files.{Names, FileFaults, StoresRose}
+use Rattle.cov_port.specs.Files.{Names, FileFaults, OpensRose, ReadsRose, StoresRose}
 use Rattle.cov_program.specs.Answer.{Answer, refused}
-use Rattle.cov_program.specs.Continuing.{InputRose}
 use Rattle.cov_program.specs.Faults.{StoresAll, StoresFront}
 use Rattle.cov_program.specs.declared.status.Status.{Status}
 use Rattle.cov_program.specs.declared.status.Status.TheVariants.{Done, BadWords, BadDesign, BadStimulus, BadData, Fault, Limit, NoMemory, Stopped}
+
+-- the number of `open` or that of `read` rose, and no other
+abbrev pub InputRose : FileFaults → FileFaults → Type 0
+InputRose before now = OpensRose before now ⊎ ReadsRose before now
 
 -- the answer came: its status, its stores, and no number changed
 pub record IsAnswered (told : Option Answer) (old new : Option Names) (before now : FileFaults) (ended : Status) : Type 0 where
@@ -46,3 +49,15 @@ Ends told old new before now Fault = HasBrokenInput old new before now ⊎ (HasB
 Ends told old new before now Limit = IsAnswered told old new before now Limit
 Ends told old new before now NoMemory = IsWanting old new before now
 Ends told old new before now Stopped = IsAnswered told old new before now Stopped
+
+-- the statuses that a merge ends with
+abbrev pub CanEndMerge : Status → Type 0
+CanEndMerge Done = Unit {0}
+CanEndMerge BadWords = ⊥
+CanEndMerge BadDesign = ⊥
+CanEndMerge BadStimulus = ⊥
+CanEndMerge BadData = Unit {0}
+CanEndMerge Fault = Unit {0}
+CanEndMerge Limit = Unit {0}
+CanEndMerge NoMemory = Unit {0}
+CanEndMerge Stopped = ⊥

@@ -4,8 +4,9 @@ use Rattle.std.specs.Str.{bytes_eq}
 use Rattle.cov_port.specs.Causes.{Rose, IsQuiet, Both}
 use Rattle.cov_port.specs.Files.{Names, FileFaults, AllQuiet, OpensRose, ReadsRose, StoresRose, StoresPart}
 use Rattle.cov_port.specs.Sinks.{PutsAll, PutsPart}
-use Rattle.cov_program.specs.Answer.{Answer}
-use Rattle.cov_program.specs.Ending.{Unless, error_line}
+use Rattle.cov_program.specs.Answer.{Answer, refused}
+use Rattle.cov_program.specs.Ending.{Unless}
+use Rattle.cov_program.specs.Lines.{IsLineOf}
 use Rattle.cov_program.specs.declared.status.Status.{Status}
 use Rattle.cov_program.specs.declared.status.Status.TheVariants.{Fault, NoMemory}
 
@@ -54,34 +55,50 @@ pub record IsUntouched (old new : World) : Type 0 where
   pub held : new.held ≡ old.held
   pub written : new.written ≡ old.written
 
--- no store was made, and of the output at most a part was put
-pub record HasPutPart (told : Option Answer) (old new : World) : Type 0 where
+-- this answer is what stands at the end
+pub record IsLeft (answer : Answer) (said : List ℕ) (old new : World) (ended : Status) : Type 0 where
+  pub status : ended ≡ answer.status
+  pub stores : Both (StoresAll answer.stores) old.held new.held
+  pub output : Both (PutsAll answer.out) old.written new.written
+  pub line : said ≡ answer.line
+
+-- no store was made, and of the output, whatever it would have been, at most a part was put
+pub record StopsBefore (Is : Names → Answer → Type 0) (old new : World) : Type 0 where
   pub held : new.held ≡ old.held
-  pub out : IfSome told (λ answer. Both (PutsPart answer.out) old.written new.written)
+  pub out : IfSome old.held (λ names. (answer : Answer) → Is names answer → Both (PutsPart answer.out) old.written new.written)
 
--- the output is there whole, and the stores up to the one that failed
-pub record HasStoredPart (told : Option Answer) (old new : World) : Type 0 where
-  pub out : IfSome told (λ answer. Both (PutsAll answer.out) old.written new.written)
-  pub stores : IfSome told (λ answer. Both (StoresFront answer.stores) old.held new.held)
+-- no store was made, and of the output of an answer a part was put
+pub record HasPutPart (Is : Names → Answer → Type 0) (old new : World) : Type 0 where
+  pub held : new.held ≡ old.held
+  pub out : IfSome old.held (λ names. (answer : Answer) × Is names answer × Both (PutsPart answer.out) old.written new.written)
 
--- why the program ends with a fault, and what stands then: the answer comes to a name that told files lack,
+-- the output of an answer is there whole, and its stores up to the one that failed
+pub record HasStoredPart (Is : Names → Answer → Type 0) (old new : World) : Type 0 where
+  pub answer : IfSome old.held (λ names. (answer : Answer) × Is names answer
+      × Both (PutsAll answer.out) old.written new.written × Both (StoresFront answer.stores) old.held new.held)
+
+-- why a call ends with a fault, and what stands then: the answer comes to a name that told files lack,
 -- or exactly one of four numbers rose
-pub data IsFault (told : Option Answer) (old new : World) : Type 0 where
-  absent : IsUnharmed old new → IsUntouched old new → IsSomeAnd told (λ answer. answer.status ≡ Fault) → IsFault told old new
-  open_failed : OpensRose old.faults new.faults → new.put_faults ≡ old.put_faults → HasPutPart told old new → IsFault told old new
-  read_failed : ReadsRose old.faults new.faults → new.put_faults ≡ old.put_faults → HasPutPart told old new → IsFault told old new
-  put_failed : Rose old.put_faults new.put_faults → new.faults ≡ old.faults → HasPutPart told old new → IsFault told old new
-  store_failed : StoresRose old.faults new.faults → new.put_faults ≡ old.put_faults → HasStoredPart told old new → IsFault told old new
+pub data IsFault (Is : Names → Answer → Type 0) (old new : World) : Type 0 where
+  absent : IsUnharmed old new → IsUntouched old new → IsSomeAnd old.held (λ names. Is names (refused Fault)) → IsFault Is old new
+  open_failed : OpensRose old.faults new.faults → new.put_faults ≡ old.put_faults → StopsBefore Is old new → IsFault Is old new
+  read_failed : ReadsRose old.faults new.faults → new.put_faults ≡ old.put_faults → StopsBefore Is old new → IsFault Is old new
+  put_failed : Rose old.put_faults new.put_faults → new.faults ≡ old.faults → HasPutPart Is old new → IsFault Is old new
+  store_failed : StoresRose old.faults new.faults → new.put_faults ≡ old.put_faults → HasStoredPart Is old new → IsFault Is old new
 
--- what the program leaves, where `told` is the answer to its words if the files tell what they hold
-pub record Leaves (told : Option Answer) (old new : World) (ended : Status) : Type 0 where
-  -- where no call failed, the answer is what stands at the end
-  pub status : IsCalm old new → Unless ended (IfSome told (λ answer. ended ≡ answer.status))
-  pub stores : IsCalm old new → Unless ended (IfSome told (λ answer. Both (StoresAll answer.stores) old.held new.held))
-  pub output : IsCalm old new → Unless ended (IfSome told (λ answer. Both (PutsAll answer.out) old.written new.written))
-  pub line : IsCalm old new → Unless ended (IfSome told (λ answer. error_line ended ≡ answer.line))
-  -- where one failed, the program ends with a fault, and it ends so for no other reason than that and an absent name
+-- what a call leaves, where `Is` says which answers there are, given what each name holds
+pub record Leaves (Is : Names → Answer → Type 0) (said : List ℕ) (old new : World) (ended : Status) : Type 0 where
+  -- where no call failed, an answer is what stands at the end
+  pub answer : IsCalm old new → Unless ended (IfSome old.held (λ names. (answer : Answer) × Is names answer × IsLeft answer said old new ended))
+  -- where one failed, it ends with a fault, and it ends so for no other reason than that and an absent name
   pub unharmed : (ended ≡ Fault → ⊥) → IsUnharmed old new
-  pub fault : ended ≡ Fault → IsFault told old new
+  pub fault : ended ≡ Fault → IsFault Is old new
   -- want of memory leaves everything as it was
   pub no_memory : ended ≡ NoMemory → IsUntouched old new
+  -- whatever the files tell, the line is one of the status
+  pub line : IsLineOf ended said
+
+-- the line was put; or, where that failed, a part of it
+pub record IsSaid (line : List ℕ) (before now : ℕ) (old new : Option (List ℕ)) : Type 0 where
+  pub whole : IsQuiet before now → Both (PutsAll line) old new
+  pub part : Both (PutsPart line) old new

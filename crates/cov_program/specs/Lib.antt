@@ -1,7 +1,13 @@
-pub mod Words
-pub mod Ending
 pub mod Answer
-pub mod Faults
+pub mod Answers
+pub mod CheckAnswer
+pub mod Checking
 pub mod Continuing
+pub mod Ending
+pub mod Endings
 pub mod Ends
-pub mod Seen
+pub mod Faults
+pub mod Lines
+pub mod MergeAnswer
+pub mod Tasks
+pub mod Words

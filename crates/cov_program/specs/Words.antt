@@ -1,41 +1,41 @@
--- What the words of a command line spell.
-use Rattle.std.specs.Prelude.{ℕ, ◌==◌, ◌&&◌, Bool, false, not, nat_le, List, [], ◌∷◌, length, Option, None, Some, codes, if◌then◌else◌}
-use Rattle.std.specs.List.{list_all}
-use Rattle.std.specs.Str.{bytes_eq}
-
--- a byte that a name may have: none below the blank, and not the delete byte
-abbrev pub is_name_byte : ℕ → Bool
-is_name_byte byte = nat_le 32 byte && not (byte == 127)
-
--- a name has 1 to 4,096 such bytes
-abbrev pub is_name : List ℕ → Bool
-is_name word = nat_le 1 (length word) && nat_le (length word) 4096 && list_all is_name_byte word
-
--- a word that begins with '-'
-abbrev pub is_dashed : List ℕ → Bool
-is_dashed [] = false
-is_dashed (b ∷ bs) = b == 45
-
--- the name of a file to be read
-abbrev pub is_file : List ℕ → Bool
-is_file word = is_name word && not (is_dashed word)
+-- What the words of a command line ask for, among the commands that are built (docs/commands.md, "Words").
+use Rattle.std.specs.Prelude.{ℕ, ◌&&◌, Bool, not, is_none, List, Option, None, Some, option_and_then, if◌then◌else◌}
+use Rattle.cov_words.specs.Command.{Command, check, build, sim, cover, selftest, Covering, command_of}
 
 -- a merge: the name that is stored, and the files that are read, in order
 pub record Merging : Type 0 where
   pub out : List ℕ
   pub files : List (List ℕ)
 
--- the command `cover --write OUT FILE..`
-abbrev pub merge_of : List ℕ → List ℕ → List ℕ → List (List ℕ) → Option Merging
-merge_of command option out [] = None
-merge_of command option out (f ∷ fs) =
-    if bytes_eq command (codes "cover") && bytes_eq option (codes "--write") && is_name out && list_all is_file (f ∷ fs)
-    then Some (record { out = out; files = f ∷ fs })
-    else None
+-- what the program does: a check of these files, or a merge
+pub data Task : Type 0 where
+  checking : List (List ℕ) → Task
+  merging : Merging → Task
 
--- the command that the words spell, if there is one
-abbrev pub command_of : List (List ℕ) → Option Merging
-command_of [] = None
-command_of (command ∷ []) = None
-command_of (command ∷ option ∷ []) = None
-command_of (command ∷ option ∷ out ∷ files) = merge_of command option out files
+-- a `cover` that stores the merged file, and does nothing else
+abbrev pub only_writes : Covering → Bool
+only_writes asked =
+    is_none asked.write_info && not asked.rank && is_none asked.annotate && is_none asked.annotate_min && is_none asked.filter_type
+
+abbrev pub merge_to : List ℕ → List (List ℕ) → Merging
+merge_to out files = record { out = out; files = files }
+
+-- a merge, if there is a name to store it at
+abbrev pub merge_of : List (List ℕ) → Option (List ℕ) → Option Task
+merge_of files None = None
+merge_of files (Some out) = Some (merging (merge_to out files))
+
+abbrev pub merge_for : Covering → Option Task
+merge_for asked = if only_writes asked then merge_of asked.files asked.write else None
+
+-- what a command asks for; commands and options that aren't built yet ask for nothing
+abbrev pub task_for : Command → Option Task
+task_for (check names) = Some (checking names)
+task_for (build asked) = None
+task_for (sim asked) = None
+task_for (cover asked) = merge_for asked
+task_for (selftest stages) = None
+
+-- what the words ask for, if they ask for anything
+abbrev pub task_of : List (List ℕ) → Option Task
+task_of words = option_and_then task_for (command_of words)

@@ -1,20 +1,19 @@
-ghost use Rattle.std.specs.Prelude.{◌≡◌, nat_lt, length, map, string_bytes, Ok, Err, OnOk, IfErr, IfSome, IsErrOf};
+//! The merge of data files.
+
+ghost use Rattle.std.specs.Prelude.{◌≡◌, map, Ok, Err, OnOk, IfErr, IfSome, IsErrOf};
 ghost use Rattle.std.specs.Option.{option_map};
 ghost use Rattle.cov_dat.specs.Reading.{reading};
-ghost use Rattle.cov_program.specs.Answer.{arrivals_of, done_storing, merge_answer, status_of};
 ghost use Rattle.cov_program.specs.Continuing.{continued, file_outcome, files_outcome, Refuses};
 ghost use Rattle.cov_program.specs.Ending.{Unless};
-ghost use Rattle.cov_program.specs.Ends.{Ends};
-ghost use Rattle.cov_program.specs.Seen.{seen_merge};
+ghost use Rattle.cov_program.specs.Ends.{CanEndMerge, Ends};
+ghost use Rattle.cov_program.specs.MergeAnswer.{arrivals_of, done_storing, merge_answer, status_of};
+ghost use Rattle.cov_program.specs.Words.{merge_to};
 
+use crate::inputs::{are_too_many, unread_status};
 use crate::status::Status;
-use crate::words::Merge;
 use cov_dat::{DataFault, MergeFault, Merged, TextReader, adding_gives_the_sums, front_is_enough};
-use cov_port::{Files, TakeFault, take_file};
+use cov_port::{Files, take_file};
 use std::alloc::Global;
-
-/// The greatest number of files of one command.
-const MOST_FILES: usize = 4096;
 
 /// The greatest number of bytes of one data file.
 const MOST_BYTES: u64 = 4_294_967_296;
@@ -38,7 +37,7 @@ fn add_text(merged: &mut Merged, text: &[u8]) -> Result<(), Status>
     ensures ok { OnOk result (continued merged.old (arrivals_of (reading text.now)) ≡ Ok merged.new) }
     ensures err { IfErr result (λ status. Unless status (continued merged.old (arrivals_of (reading text.now)) ≡ Err status)) }
     ensures no_fault { IsErrOf result Status.Fault → ⊥ }
-    ensures no_words { IsErrOf result Status.BadWords → ⊥ }
+    ensures kind { IfErr result CanEndMerge }
 {
     let mut reader = TextReader::new(text);
     'records: loop {
@@ -65,13 +64,12 @@ fn add_file<F: Files>(
     ensures ok_quiet { OnOk result (F.faults files.new ≡ F.faults files.old) }
     ensures err { IfErr result (Refuses (file_outcome (F.held files.old) merged.old name.now) (F.faults files.old) (F.faults files.new)) }
     ensures held { F.held files.new ≡ F.held files.old }
-    ensures no_words { IsErrOf result Status.BadWords → ⊥ }
+    ensures kind { IfErr result CanEndMerge }
 {
     front_is_enough();
     match take_file(alloc, files, name, MOST_BYTES) {
         Ok(text) => add_text(merged, text.as_slice()),
-        Err(TakeFault::NoMemory) => Err(Status::NoMemory),
-        Err(TakeFault::OpenFailed | TakeFault::ReadFailed) => Err(Status::Fault),
+        Err(fault) => Err(unread_status(fault)),
     }
 }
 
@@ -79,17 +77,17 @@ fn add_file<F: Files>(
 fn add_files<F: Files>(
     alloc: Global,
     files: &mut F,
-    names: &[String],
+    names: &[&str],
     merged: &mut Merged,
 ) -> Result<(), Status>
-    ensures ok { OnOk result (IfSome (files_outcome (F.held files.old) merged.old (map string_bytes names.now)) (λ outcome. outcome ≡ Ok merged.new)) }
+    ensures ok { OnOk result (IfSome (files_outcome (F.held files.old) merged.old (map (λ name. name.now) names.now)) (λ outcome. outcome ≡ Ok merged.new)) }
     ensures ok_quiet { OnOk result (F.faults files.new ≡ F.faults files.old) }
-    ensures err { IfErr result (Refuses (files_outcome (F.held files.old) merged.old (map string_bytes names.now)) (F.faults files.old) (F.faults files.new)) }
+    ensures err { IfErr result (Refuses (files_outcome (F.held files.old) merged.old (map (λ name. name.now) names.now)) (F.faults files.old) (F.faults files.new)) }
     ensures held { F.held files.new ≡ F.held files.old }
-    ensures no_words { IsErrOf result Status.BadWords → ⊥ }
+    ensures kind { IfErr result CanEndMerge }
 {
     'names: for name in names {
-        match add_file(alloc, files, name.as_str(), merged) {
+        match add_file(alloc, files, name, merged) {
             Ok(()) => {}
             Err(status) => return Err(status),
         }
@@ -97,27 +95,21 @@ fn add_files<F: Files>(
     Ok(())
 }
 
-fn are_too_many(names: &[String]) -> bool
-    ensures { result ≡ nat_lt 4096 (length names.now) }
-{
-    names.len() > MOST_FILES
-}
-
 /// Merges the data files and stores what they come to.
-pub(crate) fn merge<F: Files>(alloc: Global, files: &mut F, merge: Merge<'_>) -> Status
-    ensures ends { Ends (option_map (λ held. merge_answer held (seen_merge merge.entry)) (F.held files.old)) (F.held files.old) (F.held files.new) (F.faults files.old) (F.faults files.new) result }
-    ensures no_words { result ≡ Status.BadWords → ⊥ }
+pub(crate) fn merge<F: Files>(alloc: Global, files: &mut F, out: &str, names: &[&str]) -> Status
+    ensures ends { Ends (option_map (λ held. merge_answer held (merge_to out.now (map (λ name. name.now) names.now))) (F.held files.old)) (F.held files.old) (F.held files.new) (F.faults files.old) (F.faults files.new) result }
+    ensures kind { CanEndMerge result }
 {
     adding_gives_the_sums();
-    if are_too_many(merge.files) {
+    if are_too_many(names) {
         return Status::Limit;
     }
     let mut merged = match Merged::new(alloc) {
         Ok(merged) => merged,
         Err(_) => return Status::NoMemory,
     };
-    match add_files(alloc, files, merge.files, &mut merged) {
-        Ok(()) => store_merged(alloc, files, merge.out, &merged),
+    match add_files(alloc, files, names, &mut merged) {
+        Ok(()) => store_merged(alloc, files, out, &merged),
         Err(status) => status,
     }
 }
@@ -125,7 +117,7 @@ pub(crate) fn merge<F: Files>(alloc: Global, files: &mut F, merge: Merge<'_>) ->
 /// Stores the data file of the counts.
 fn store_merged<F: Files>(alloc: Global, files: &mut F, out: &str, merged: &Merged) -> Status
     ensures ends { Ends (option_map (λ _. done_storing out.now merged.now) (F.held files.old)) (F.held files.old) (F.held files.new) (F.faults files.old) (F.faults files.new) result }
-    ensures no_words { result ≡ Status.BadWords → ⊥ }
+    ensures kind { CanEndMerge result }
 {
     let text = match merged.text(alloc) {
         Ok(text) => text,

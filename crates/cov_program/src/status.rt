@@ -1,5 +1,6 @@
 ghost use Rattle.std.specs.Prelude.{◌≡◌};
-ghost use Rattle.cov_program.specs.Ending.{error_line, exit_code};
+ghost use Rattle.cov_program.specs.Ending.{exit_code};
+ghost use Rattle.cov_program.specs.Lines.{error_line};
 
 /// How a call of the program ends.
 #[derive(Clone, Copy, Debug, PartialEq, Eq)]

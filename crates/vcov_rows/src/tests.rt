@@ -1,10 +1,13 @@
 //! Cases over files in memory, and how they are run.
 
+mod check;
 mod merge;
+mod words;
 
 use cov_port::{MemFiles, MemSink};
 use cov_program::{Status, vcov};
 use std::alloc::Global;
+use std::process::Abort;
 use std::test::Fail;
 use std::thread::Threads;
 
@@ -14,9 +17,102 @@ pub(crate) struct Case<'a> {
     pub(crate) words: &'a [&'a str],
     pub(crate) files: &'a [(&'a str, &'a [u8])],
     pub(crate) status: Status,
+    pub(crate) printed: &'a [u8],
     pub(crate) line: &'a [u8],
     /// What `o.dat` holds afterwards, if it is stored.
     pub(crate) stored: Option<&'a [u8]>,
+}
+
+/// A case where all is done and nothing is printed.
+pub(crate) fn done<'a>(
+    words: &'a [&'a str],
+    files: &'a [(&'a str, &'a [u8])],
+    stored: &'a [u8],
+) -> Case<'a> {
+    Case {
+        words,
+        files,
+        status: Status::Done,
+        printed: b"",
+        line: b"",
+        stored: Some(stored),
+    }
+}
+
+/// A case where all is done and nothing is stored.
+pub(crate) fn says<'a>(
+    words: &'a [&'a str],
+    files: &'a [(&'a str, &'a [u8])],
+    printed: &'a [u8],
+) -> Case<'a> {
+    Case {
+        words,
+        files,
+        status: Status::Done,
+        printed,
+        line: b"",
+        stored: None,
+    }
+}
+
+/// A case that is refused with this line.
+pub(crate) fn refused<'a>(
+    words: &'a [&'a str],
+    files: &'a [(&'a str, &'a [u8])],
+    status: Status,
+    line: &'a [u8],
+) -> Case<'a> {
+    Case {
+        words,
+        files,
+        status,
+        printed: b"",
+        line,
+        stored: None,
+    }
+}
+
+/// What the program leaves where no call fails.
+pub(crate) fn is_case(rt: &impl Abort, case: &Case, status: Status, setup: &Setup) {
+    assert_eq!(rt; setup.err.bytes(), case.line);
+    assert!(rt; status == case.status);
+    assert!(rt; setup.files.bytes_of("o.dat") == case.stored);
+    assert_eq!(rt; setup.out.bytes(), case.printed);
+}
+
+/// Runs a case with pieces of this size, and looks at what it leaves.
+pub(crate) fn answers<R: Threads + Sync + Abort>(
+    rt: &R,
+    alloc: Global,
+    case: &Case,
+    piece: u32,
+) -> Result<(), Fail> {
+    let mut setup = prepared(alloc, piece, case.files)?;
+    let words = texts(alloc, case.words)?;
+    let status = run(rt, alloc, &words, &mut setup);
+    is_case(rt, case, status, &setup);
+    Ok(())
+}
+
+/// Runs a case with its k-th call on files failing. It tells whether a call failed.
+pub(crate) fn stops_at<R: Threads + Sync + Abort>(
+    rt: &R,
+    alloc: Global,
+    case: &Case,
+    k: u64,
+) -> Result<bool, Fail> {
+    let mut setup = prepared(alloc, 1, case.files)?;
+    setup.files.fail_at(k)?;
+    let words = texts(alloc, case.words)?;
+    let status = run(rt, alloc, &words, &mut setup);
+    if status != Status::Fault {
+        is_case(rt, case, status, &setup);
+        return Ok(false);
+    }
+    assert!(rt; setup.files.bytes_of("o.dat").is_none());
+    assert!(rt; setup.err.bytes() == b"vcov: Fault\n".as_slice());
+    assert!(rt; setup.out.bytes().is_empty());
+    Ok(true)
 }
 
 /// Files and sinks of one run.

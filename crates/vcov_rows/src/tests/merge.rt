@@ -1,18 +1,15 @@
 //! Merging data files.
 
-use super::{Case, Setup, prepared, run, texts};
+use super::{answers, done, prepared, refused, run, stops_at, texts};
 use cov_program::Status;
-use std::alloc::Global;
-use std::process::Abort;
 use std::test::Fail;
-use std::thread::Threads;
 
-const THREE: &[u8] = b"# SystemC::Coverage-3\nC '\x01f\x02a'b.v\x01l\x02\x31' 3\n";
+pub(crate) const THREE: &[u8] = b"# SystemC::Coverage-3\nC '\x01f\x02a'b.v\x01l\x02\x31' 3\n";
 
-const ALMOST: &[u8] =
+pub(crate) const ALMOST: &[u8] =
     b"# SystemC::Coverage-3\nC '\x01f\x02a'b.v\x01l\x02\x31' 18446744073709551614\n";
 
-const FULL: &[u8] =
+pub(crate) const FULL: &[u8] =
     b"# SystemC::Coverage-3\nC '\x01f\x02a'b.v\x01l\x02\x31' 18446744073709551615\n";
 
 const HEADER: &[u8] = b"# SystemC::Coverage-3\n";
@@ -36,54 +33,7 @@ const TURNED: &[&str] = &["cover", "--write", "o.dat", "b.dat", "a.dat"];
 
 const ONE: &[&str] = &["cover", "--write", "o.dat", "d.dat"];
 
-const PAIR: &[(&str, &[u8])] = &[("a.dat", THREE), ("b.dat", ALMOST)];
-
-fn done<'a>(words: &'a [&'a str], files: &'a [(&'a str, &'a [u8])], stored: &'a [u8]) -> Case<'a> {
-    Case {
-        words,
-        files,
-        status: Status::Done,
-        line: b"",
-        stored: Some(stored),
-    }
-}
-
-fn refused<'a>(
-    words: &'a [&'a str],
-    files: &'a [(&'a str, &'a [u8])],
-    status: Status,
-    line: &'a [u8],
-) -> Case<'a> {
-    Case {
-        words,
-        files,
-        status,
-        line,
-        stored: None,
-    }
-}
-
-/// What the program leaves where no call fails.
-fn is_case(rt: &impl Abort, case: &Case, status: Status, setup: &Setup) {
-    assert!(rt; status == case.status);
-    assert!(rt; setup.files.bytes_of("o.dat") == case.stored);
-    assert!(rt; setup.err.bytes() == case.line);
-    assert!(rt; setup.out.bytes().is_empty());
-}
-
-/// Runs a case with pieces of this size, and looks at what it leaves.
-fn answers<R: Threads + Sync + Abort>(
-    rt: &R,
-    alloc: Global,
-    case: &Case,
-    piece: u32,
-) -> Result<(), Fail> {
-    let mut setup = prepared(alloc, piece, case.files)?;
-    let words = texts(alloc, case.words)?;
-    let status = run(rt, alloc, &words, &mut setup);
-    is_case(rt, case, status, &setup);
-    Ok(())
-}
+pub(crate) const PAIR: &[(&str, &[u8])] = &[("a.dat", THREE), ("b.dat", ALMOST)];
 
 #[test]
 fn data_files_are_merged(rt: HostRuntime) -> Result<(), Fail> {
@@ -131,29 +81,10 @@ fn bad_input_stores_nothing(rt: HostRuntime) -> Result<(), Fail> {
 }
 
 #[test]
-fn absent_files_and_bad_words_store_nothing(rt: HostRuntime) -> Result<(), Fail> {
+fn an_absent_file_stores_nothing(rt: HostRuntime) -> Result<(), Fail> {
     let alloc = rt.alloc();
     let absent = refused(MERGE, &[("a.dat", THREE)], Status::Fault, b"vcov: Fault\n");
     answers(&rt, alloc, &absent, 1)?;
-    let wrong: [&[&str]; 9] = [
-        &[],
-        &["cover"],
-        &["cover", "--write", "o.dat"],
-        &["cover", "--write", "", "a.dat"],
-        &["cover", "--write", "o.dat", "-"],
-        &["cover", "--write", "o.dat", "a.dat", "-x"],
-        &["cover", "--write", "o.dat", "a\u{7f}.dat"],
-        &["merge", "--write", "o.dat", "a.dat"],
-        &["cover", "--write=o.dat", "a.dat"],
-    ];
-    for words in &wrong {
-        answers(
-            &rt,
-            alloc,
-            &refused(words, PAIR, Status::BadWords, b"vcov: BadWords\n"),
-            3,
-        )?;
-    }
     Ok(())
 }
 
@@ -175,40 +106,6 @@ fn too_many_files_are_not_opened(rt: HostRuntime) -> Result<(), Fail> {
     assert!(rt; over.files.bytes_of("o.dat").is_none());
     assert!(rt; over.err.bytes() == b"vcov: Limit\n".as_slice());
     Ok(())
-}
-
-#[test]
-fn any_name_may_be_stored(rt: HostRuntime) -> Result<(), Fail> {
-    let alloc = rt.alloc();
-    for name in ["-", "--write", "a.dat"] {
-        let mut setup = prepared(alloc, 64, PAIR)?;
-        let words = texts(alloc, &["cover", "--write", name, "a.dat", "b.dat"])?;
-        assert!(rt; run(&rt, alloc, &words, &mut setup) == Status::Done);
-        assert!(rt; setup.files.bytes_of(name) == Some(FULL));
-        assert!(rt; setup.files.bytes_of("b.dat") == Some(ALMOST));
-    }
-    Ok(())
-}
-
-/// Runs a case with its k-th call on files failing. It tells whether a call failed.
-fn stops_at<R: Threads + Sync + Abort>(
-    rt: &R,
-    alloc: Global,
-    case: &Case,
-    k: u64,
-) -> Result<bool, Fail> {
-    let mut setup = prepared(alloc, 1, case.files)?;
-    setup.files.fail_at(k)?;
-    let words = texts(alloc, case.words)?;
-    let status = run(rt, alloc, &words, &mut setup);
-    if status != Status::Fault {
-        is_case(rt, case, status, &setup);
-        return Ok(false);
-    }
-    assert!(rt; setup.files.bytes_of("o.dat").is_none());
-    assert!(rt; setup.err.bytes() == b"vcov: Fault\n".as_slice());
-    assert!(rt; setup.out.bytes().is_empty());
-    Ok(true)
 }
 
 #[test]

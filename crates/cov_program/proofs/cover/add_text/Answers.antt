@@ -1,7 +1,7 @@
 use Rattle.std.proofs.Common.{sym, ap, ◌∙◌, is_some, Err}
 use Rattle.cov_dat.specs.Merging.{Counts}
 use Rattle.cov_dat.specs.declared.record_list.RecordList.{RecordList}
-use Rattle.cov_program.specs.Answer.{arrivals_of}
+use Rattle.cov_program.specs.MergeAnswer.{arrivals_of}
 use Rattle.cov_program.specs.Continuing.{continued}
 use Rattle.cov_program.proofs.ContinuingLemmas.{continued-past, continued-within}
 use Rattle.cov_program.proofs.cover.add_text.Goals as goal

@@ -1,5 +1,5 @@
 use Rattle.std.proofs.Common.{◌≡◌, length}
-use Rattle.cov_program.specs.Answer.{arrivals_of}
+use Rattle.cov_program.specs.MergeAnswer.{arrivals_of}
 use Rattle.cov_program.specs.Continuing.{continued}
 use Rattle.cov_program.proofs.cover.add_text.Given as goal
 

@@ -1,5 +1,5 @@
 use Rattle.std.proofs.Common.{inl, inr}
-use Rattle.cov_program.proofs.EndsLemmas.{stored-part}
+use Rattle.cov_program.proofs.MergeLemmas.{stored-part}
 use Rattle.cov_program.proofs.cover.store_merged.Goals as goal
 
 pub returns-clause-ends : goal.returns-clause-ends
