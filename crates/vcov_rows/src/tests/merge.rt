@@ -33,6 +33,8 @@ const TURNED: &[&str] = &["cover", "--write", "o.dat", "b.dat", "a.dat"];
 
 const ONE: &[&str] = &["cover", "--write", "o.dat", "d.dat"];
 
+const DASH: &[&str] = &["cover", "--write", "o.dat", "-"];
+
 pub(crate) const PAIR: &[(&str, &[u8])] = &[("a.dat", THREE), ("b.dat", ALMOST)];
 
 #[test]
@@ -85,7 +87,11 @@ fn an_absent_file_stores_nothing(rt: HostRuntime) -> Result<(), Fail> {
     let alloc = rt.alloc();
     let absent = refused(MERGE, &[("a.dat", THREE)], Status::Fault, b"vcov: Fault\n");
     answers(&rt, alloc, &absent, 1)?;
-    Ok(())
+    // One `-` is a name as any other.
+    let dash = refused(DASH, PAIR, Status::Fault, b"vcov: Fault\n");
+    answers(&rt, alloc, &dash, 1)?;
+    let named = [("-", THREE)];
+    answers(&rt, alloc, &done(DASH, &named, THREE), 1)
 }
 
 #[test]

@@ -79,6 +79,8 @@ fn what_is_no_statement(rt: HostRuntime) -> Result<(), Fail> {
             ("", "1:22"),
             ("a = 1", "1:27"),
             ("a = ;", "1:25"),
+            ("a <= ;", "1:26"),
+            ("a <= b", "1:28"),
             ("a + b;", "1:23"),
             ("a = b = c;", "1:27"),
             ("(a) = 1;", "1:21"),
@@ -110,6 +112,7 @@ fn what_is_no_statement(rt: HostRuntime) -> Result<(), Fail> {
             ("$finish();", "1:29"),
             ("$finish(4'b1?);", "1:29"),
             ("$stop", "1:27"),
+            ("$stop(a);", "1:27"),
             ("$write(\"a\");", "1:21"),
         ],
     )
