@@ -6,7 +6,7 @@ use Rattle.std.proofs.lemmas.List.Sums.{prefix_len_is, prefix_len_stops, prefix_
 use Rattle.std.proofs.Math.Numerals.{one-add}
 use Rattle.std.proofs.Math.Seq.{drop-cons}
 use Rattle.std.specs.List.{position_or_len}
-use Rattle.cov_port.specs.Key.{is_mark}
+use Rattle.cov_types.specs.Key.{is_mark}
 use Rattle.cov_port.specs.KeyTest.{completes, before_name, in_name, in_value}
 use Rattle.cov_port.proofs.KeyLemmas.{not_one, not_two}
 

@@ -3,7 +3,7 @@ use Rattle.std.proofs.Common.{◌≡◌, ℕ, ◌<◌, Bool, true, false, cond, 
 use Rattle.std.proofs.lemmas.Bool.{eqb-true, false≢true}
 use Rattle.std.specs.Prelude.{◌||◌}
 use Rattle.std.specs.List.{flat_map, AllByRecursion}
-use Rattle.cov_port.specs.Key.{is_mark, IsPlain, IsField, IsKey, field_text}
+use Rattle.cov_types.specs.Key.{is_mark, IsPlain, IsField, IsKey, field_text}
 use Rattle.cov_port.specs.KeyTest.{completes, outside, before_name, in_name, in_value}
 
 -- the rest of a value, and further fields

@@ -4,3 +4,10 @@ pub mod FieldLemmas
 pub mod SinkLemmas
 pub mod SpanLemmas
 pub mod HeldLemmas
+pub mod LineLemmas
+pub mod CutLemmas
+pub mod GivenLemmas
+pub mod HexLemmas
+pub mod SplitLemmas
+pub mod LineListLemmas
+pub mod ReadAgainLemmas

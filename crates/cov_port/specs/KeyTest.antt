@@ -1,6 +1,6 @@
 -- A test for keys that computes. That it holds exactly of keys is a clause of `is_key`.
 use Rattle.std.specs.Prelude.{ℕ, ◌==◌, ◌&&◌, Bool, true, false, not, List, [], ◌∷◌, if◌then◌else◌}
-use Rattle.cov_port.specs.Key.{is_mark}
+use Rattle.cov_types.specs.Key.{is_mark}
 
 -- where in a key a byte stands: before byte 1, before a name, inside a name, inside a value
 pub data Stand : Type 0 where

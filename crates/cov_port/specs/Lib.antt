@@ -2,8 +2,13 @@ pub mod Causes
 pub mod Files
 pub mod Sinks
 pub mod Decimal
-pub mod Key
 pub mod KeyTest
 pub mod Memory
 pub mod Spans
 pub mod Taking
+pub mod Lines
+pub mod Sums
+pub mod Cutting
+pub mod Filling
+pub mod Hexadecimal
+pub mod LineReading

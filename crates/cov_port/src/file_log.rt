@@ -4,8 +4,8 @@ ghost use Rattle.cov_port.specs.Memory.{held_in};
 ghost use Rattle.cov_port.specs.Spans.{are_within, files_in, text_in};
 
 use crate::memory::append_within;
-use crate::no_memory::NoMemory;
 use crate::span::Span;
+use cov_types::NoMemory;
 
 /// Takes room for so many further spans, and bytes of the log.
 pub(crate) fn reserve_room(

@@ -1,6 +1,6 @@
 ghost use Rattle.std.specs.Prelude.{◌≡◌, ◌↔◌, ◌<◌, ◌≤◌, ◌+◌, ℕ, false, length, slice_index, IsTrue, IfSome, IfNone};
 ghost use Rattle.std.specs.List.{position_or_len};
-ghost use Rattle.cov_port.specs.Key.{IsKey, is_mark};
+ghost use Rattle.cov_types.specs.Key.{IsKey, is_mark};
 ghost use Rattle.cov_port.specs.KeyTest.{before_name, completes, in_value, is_key_text, outside};
 
 use std::simd::prelude::*;

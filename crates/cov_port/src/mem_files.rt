@@ -8,8 +8,8 @@ ghost use Rattle.cov_port.specs.Memory.{FilesInMemory, held_in, no_files, open_f
 use crate::file_log::{append_file, find_file, reserve_room};
 use crate::files::{FileFault, Files};
 use crate::memory::count_call;
-use crate::no_memory::NoMemory;
 use crate::span::Span;
+use cov_types::NoMemory;
 use std::alloc::Global;
 use std::marker::Model;
 

@@ -5,8 +5,8 @@ ghost use Rattle.cov_port.specs.Memory.{empty_sink, put_count, put_fails, with_f
 ghost use Rattle.cov_port.specs.Sinks.{Puts, PutsPart};
 
 use crate::memory::{append_within, count_call};
-use crate::no_memory::NoMemory;
 use crate::sink::{Sink, SinkFault};
+use cov_types::NoMemory;
 use std::alloc::Global;
 use std::marker::Model;
 

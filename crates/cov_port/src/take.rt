@@ -2,8 +2,8 @@ ghost use Rattle.std.specs.Prelude.{◌≡◌, ◌≤◌, ◌<◌, ◌+◌, true
 ghost use Rattle.cov_port.specs.Files.{lacks, ReadsRose};
 ghost use Rattle.cov_port.specs.Taking.{IsFrontOf, CannotOpen, TakesPart};
 
-use crate::byte_text::ByteText;
 use crate::files::Files;
+use cov_types::ByteText;
 use std::alloc::{AllocError, Global};
 use thiserror::Error;
 
@@ -42,6 +42,7 @@ pub fn take_file<F: Files>(
     most: u64,
 ) -> Result<ByteText, TakeFault>
     ensures ok { IfOk result (λ text. IsFrontOf (F.held files.old) name.now (most + 1) text) }
+    ensures bound { IfOk result (λ text. length text ≤ most + 1) }
     ensures held { F.held files.new ≡ F.held files.old }
 
     // Each fault has its cause in this very call, and nothing else raises a number.
@@ -60,6 +61,7 @@ pub fn take_file<F: Files>(
 /// The bytes of the open file that are left, or the first `most + 1` of them.
 fn take_open<F: Files>(alloc: Global, files: &mut F, most: u64) -> Result<ByteText, TakeFault>
     ensures ok { IfOk result (λ text. IfSome (F.rest files.old) (λ left. text ≡ take (most + 1) left)) }
+    ensures bound { IfOk result (λ text. length text ≤ most + 1) }
     ensures held { F.held files.new ≡ F.held files.old }
     ensures ok_quiet { OnOk result (F.faults files.new ≡ F.faults files.old) }
     ensures was_open { IsErrOf result TakeFault.OpenFailed → ⊥ }

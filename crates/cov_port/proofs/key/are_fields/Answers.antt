@@ -1,6 +1,6 @@
 use Rattle.std.proofs.Common.{drop, sym, ap, ◌∙◌}
 use Rattle.std.specs.List.{position_or_len}
-use Rattle.cov_port.specs.Key.{is_mark}
+use Rattle.cov_types.specs.Key.{is_mark}
 use Rattle.cov_port.specs.KeyTest.{completes, before_name, in_value}
 use Rattle.cov_port.proofs.FieldLemmas.{field_begins, from_place, past_value_front, no_front_left}
 use Rattle.cov_port.proofs.key.are_fields.Goals as goal

@@ -1,6 +1,6 @@
 use Rattle.std.proofs.Common.{◌≡◌, length}
 use Rattle.std.specs.List.{position_or_len}
-use Rattle.cov_port.specs.Key.{is_mark}
+use Rattle.cov_types.specs.Key.{is_mark}
 use Rattle.cov_port.specs.KeyTest.{completes, in_value}
 use Rattle.cov_port.proofs.key.are_fields.Given as goal
 

@@ -1,5 +1,5 @@
 use Rattle.std.proofs.Common.{◌≡◌, ℕ, ◌-◌, ◌<◌, ◌≤◌, false, length, slice_index}
-use Rattle.cov_port.specs.Key.{is_mark}
+use Rattle.cov_types.specs.Key.{is_mark}
 use Rattle.cov_port.proofs.key.first_mark.Given as goal
 
 abbrev pub invariant-blocks-2 : goal.invariant-blocks-2
