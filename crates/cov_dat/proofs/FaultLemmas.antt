@@ -1,6 +1,6 @@
 -- What a refused addition tells.
 use Rattle.std.proofs.Common.{◌≡◌, ℕ, Option, Some, Err, IsErrOf, ap, ◌∙◌}
-use Rattle.cov_port.specs.declared.limit.LimitName.{LimitName}
+use Rattle.cov_types.specs.declared.limit.LimitName.{LimitName}
 use Rattle.cov_dat.specs.declared.merge_fault.MergeFault.{MergeFault}
 use Rattle.cov_dat.specs.declared.merge_fault.MergeFault.TheVariants.{Limit}
 

@@ -2,14 +2,14 @@
 use Rattle.std.proofs.Common.{◌≡◌, ℕ, zero, suc, ◌+◌, ◌-◌, ◌<◌, ◌≤◌, Bool, true, false, cond, eqb, ltb, List, [], ◌∷◌, ◌++◌, length, take, refl, sym, ◌∙◌, ap, Ok, Err, None, Some, arith, inl, inr, length-append, length-take}
 use Rattle.std.proofs.lemmas.Bool.{cases_lt, cases_Bool, eqb-true, lt-ltb, le-ltb}
 use Rattle.std.proofs.lemmas.List.{take_all, take-append-le}
-use Rattle.cov_dat.specs.Lines.{Line, onto_line, lines_of}
-use Rattle.cov_dat.specs.DataLine.{Says, bytes_of, says_within}
+use Rattle.cov_port.specs.Lines.{Line, bytes_of, onto_line, lines_of}
+use Rattle.cov_dat.specs.DataLine.{Says, says_within}
 use Rattle.cov_dat.specs.Reading.{all_say, reading_from, reading_of}
 use Rattle.cov_dat.specs.FrontLaw.{ReadsByFront}
 use Rattle.cov_dat.specs.declared.fault.DataFault.{DataFault}
 use Rattle.cov_dat.specs.declared.fault.DataFault.TheVariants.{LineTooLong, Limit}
 use Rattle.cov_dat.specs.declared.record_list.RecordList.{RecordList}
-use Rattle.cov_port.specs.declared.limit.LimitName.TheVariants.{DataBytes}
+use Rattle.cov_types.specs.declared.limit.LimitName.TheVariants.{DataBytes}
 
 -- a text without line feed, told by its lines: a line feed behind it ends it, and each front of it is one line
 pub record Unbroken (line : List ℕ) : Type 0 where

@@ -3,7 +3,10 @@ pub mod FaultLemmas
 pub mod FirstKeyLemmas
 pub mod FrontLemmas
 pub mod LawLemmas
-pub mod LineLemmas
+pub mod QuoteLemmas
 pub mod MergingLemmas
 pub mod SortLemmas
 pub mod WeightLemmas
+pub mod StreamLemmas
+pub mod PatternLemmas
+pub mod FieldTextLemmas

@@ -4,7 +4,8 @@ use Rattle.std.specs.Str.{bytes_eq}
 use Rattle.std.proofs.lemmas.Bool.Decides.{nat_tests}
 use Rattle.std.proofs.lemmas.List.Recursion.{is_sum_by}
 use Rattle.std.proofs.lemmas.List.Sorted.{sum_by-IsPermutation}
-use Rattle.cov_dat.specs.Merging.{merged_count, records_of, saturated, total}
+use Rattle.cov_dat.specs.Merging.{merged_count, records_of, saturated}
+use Rattle.cov_port.specs.Sums.{total}
 use Rattle.cov_dat.specs.Laws.{all_records}
 use Rattle.cov_dat.specs.declared.record_list.Record.{Record}
 

@@ -5,8 +5,8 @@ use Rattle.std.specs.Str.{bytes_eq}
 use Rattle.std.specs.Option.{option_map_or}
 use Rattle.cov_port.specs.Decimal.{decimal_of}
 use Rattle.cov_port.specs.KeyTest.{is_key_text}
-use Rattle.cov_port.specs.declared.limit.LimitName.TheVariants.{DataBytes}
-use Rattle.cov_dat.specs.Lines.{Line}
+use Rattle.cov_types.specs.declared.limit.LimitName.TheVariants.{DataBytes}
+use Rattle.cov_port.specs.Lines.{Line, is_long}
 use Rattle.cov_dat.specs.declared.fault.DataFault.{DataFault}
 use Rattle.cov_dat.specs.declared.fault.DataFault.TheVariants.{BadHeader, BadRecord, BadCount, LineTooLong, Limit}
 use Rattle.cov_dat.specs.declared.record_list.Record.{Record}
@@ -48,10 +48,6 @@ abbrev pub is_skipped : List ℕ → Bool
 is_skipped [] = true
 is_skipped (b ∷ bs) = b == 35
 
--- whether a line is longer than any line may be
-abbrev pub is_long : Line → Bool
-is_long l = nat_lt 65535 (length l.0)
-
 -- what the line with this number says, apart from the size of the file
 abbrev pub says : ℕ → Line → Says
 says n l =
@@ -60,10 +56,6 @@ says n l =
     else if not l.1 then Err (BadRecord n)
     else if is_skipped l.0 then Ok None
     else says_record n l.0
-
--- the bytes that a line counts towards the size of its file: its own and its line feed, or 65,536 where it is too long
-abbrev pub bytes_of : Line → ℕ
-bytes_of l = if is_long l then 65536 else (length l.0 + (if l.1 then 1 else 0))
 
 -- the same line where the file has this many bytes up to its end: the limit on bytes comes first
 abbrev pub says_within : ℕ → ℕ → Line → Says

@@ -2,8 +2,8 @@
 use Rattle.std.specs.Prelude.{ℕ, zero, suc, ◌+◌, Bool, is_some, nat_lt, List, [], ◌∷◌, Option, None, Some, if◌then◌else◌}
 use Rattle.std.specs.Str.{bytes_eq}
 use Rattle.std.specs.Map.{lookup}
-use Rattle.cov_port.specs.declared.limit.LimitName.{LimitName}
-use Rattle.cov_port.specs.declared.limit.LimitName.TheVariants.{DataPoints, TotalKeyBytes}
+use Rattle.cov_types.specs.declared.limit.LimitName.{LimitName}
+use Rattle.cov_types.specs.declared.limit.LimitName.TheVariants.{DataPoints, TotalKeyBytes}
 use Rattle.cov_dat.specs.Merging.{Counts, saturated}
 
 -- whether the key stands among the counts

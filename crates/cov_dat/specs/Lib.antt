@@ -1,4 +1,3 @@
-pub mod Lines
 pub mod DataLine
 pub mod Reading
 pub mod Merging
@@ -9,3 +8,9 @@ pub mod Position
 pub mod FrontLaw
 pub mod KeyTable
 pub mod SortedView
+pub mod Streaming
+pub mod Taking
+pub mod KeyFields
+pub mod Patterns
+pub mod FrontFits
+pub mod FieldWalk

@@ -2,18 +2,14 @@
 use Rattle.std.specs.Prelude.{ℕ, ◌+◌, ◌-◌, ◌^◌, min, not, nat_lt, length, List, [], ◌∷◌, filter, map, Option, None, Some, if◌then◌else◌}
 use Rattle.std.specs.Str.{bytes_eq}
 use Rattle.std.specs.List.{position_or_len}
-use Rattle.cov_port.specs.declared.limit.LimitName.{LimitName}
-use Rattle.cov_port.specs.declared.limit.LimitName.TheVariants.{DataPoints, TotalKeyBytes}
+use Rattle.cov_port.specs.Sums.{total}
+use Rattle.cov_types.specs.declared.limit.LimitName.{LimitName}
+use Rattle.cov_types.specs.declared.limit.LimitName.TheVariants.{DataPoints, TotalKeyBytes}
 use Rattle.cov_dat.specs.declared.record_list.Record.{Record}
 
 -- keys with their counts
 abbrev pub Counts : Type 0
 Counts = List (List ℕ × ℕ)
-
--- the sum of a list of numbers
-abbrev pub total : List ℕ → ℕ
-total [] = 0
-total (n ∷ ns) = n + total ns
 
 -- a number, or 2^64 - 1 where it is greater
 abbrev pub saturated : ℕ → ℕ

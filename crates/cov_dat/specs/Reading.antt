@@ -1,7 +1,7 @@
 -- The records of a data file, and its first fault.
 use Rattle.std.specs.Prelude.{ℕ, ◌+◌, ◌==◌, List, [], ◌∷◌, Option, None, Some, Ok, Err, if◌then◌else◌}
-use Rattle.cov_dat.specs.Lines.{Line, lines_of}
-use Rattle.cov_dat.specs.DataLine.{Says, bytes_of, says_within}
+use Rattle.cov_port.specs.Lines.{Line, bytes_of, lines_of}
+use Rattle.cov_dat.specs.DataLine.{Says, says_within}
 use Rattle.cov_dat.specs.declared.fault.DataFault.{DataFault}
 use Rattle.cov_dat.specs.declared.fault.DataFault.TheVariants.{BadHeader}
 use Rattle.cov_dat.specs.declared.record_list.Record.{Record}

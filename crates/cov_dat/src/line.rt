@@ -1,59 +1,21 @@
-ghost use Rattle.std.specs.Prelude.{◌≡◌, ◌≤◌, ◌<◌, ◌+◌, ◌∷◌, length, IfOk, IfSome, IsErrOf};
+ghost use Rattle.std.specs.Prelude.{◌≡◌, ◌≤◌, ◌<◌, ◌+◌, ◌∷◌, Err, true, length, IfOk, IfErr, IfSome, IsErrOf};
 ghost use Rattle.memchr.specs.Find.{is_byte, IsLastByte};
-ghost use Rattle.cov_port.specs.Key.{IsKey};
-ghost use Rattle.cov_dat.specs.Lines.{lines_of};
-ghost use Rattle.cov_dat.specs.DataLine.{at_last_quote, bytes_of, count_after, is_skipped, says, says_record, says_within};
+ghost use Rattle.cov_types.specs.Key.{IsKey};
+ghost use Rattle.cov_dat.specs.DataLine.{at_last_quote, count_after, is_skipped, says, says_record, says_within};
+ghost use Rattle.cov_port.specs.Lines.{Line, bytes_of, is_long};
 ghost use Rattle.cov_dat.specs.Seen.{seen_line, seen_parts};
+ghost use Rattle.cov_dat.specs.Taking.{IsFront, LiesIn, NamesLine, StandsAt, seen_place};
 
 use crate::fault::DataFault;
+use crate::key_place::KeyPlace;
 use cov_port::{LimitName, is_key, read_dec};
-use memchr::{memchr, memrchr};
+use memchr::memrchr;
 
 /// The greatest number of bytes of a data file.
 pub(crate) const MOST_BYTES: u64 = 4_294_967_296;
 
 /// The greatest number of bytes of a line without its line feed.
 const MOST_LINE: usize = 65_535;
-
-/// A line of a text and what stands behind it.
-#[derive(Clone, Copy)]
-pub(crate) struct Cut<'a> {
-    pub(crate) line: &'a [u8],
-    /// Whether a line feed ends the line.
-    pub(crate) ended: bool,
-    pub(crate) rest: &'a [u8],
-}
-
-/// Cuts off the first line.
-pub(crate) fn cut_line(text: &[u8]) -> Cut<'_>
-    requires { 0 < length text.now }
-    ensures lines { lines_of text.now ≡ (result.line.now, result.ended) ∷ lines_of result.rest.now }
-    ensures bytes { length result.rest.now < length text.now }
-{
-    match memchr(b'\n', text) {
-        Some(at) => Cut {
-            line: &text[..at],
-            ended: true,
-            rest: &text[at + 1..],
-        },
-        None => Cut {
-            line: text,
-            ended: false,
-            rest: &text[text.len()..],
-        },
-    }
-}
-
-/// What a line counts towards the size of its file.
-pub(crate) fn line_bytes(line: &[u8], ended: bool) -> u64
-    ensures value { result ≡ bytes_of (line.now, ended) }
-    ensures most { result ≤ 65536 }
-{
-    if line.len() > MOST_LINE {
-        return 65_536;
-    }
-    line.len() as u64 + u64::from(ended)
-}
 
 /// What the line with this number says, where the file has `bytes` bytes up to the line's end.
 pub(crate) fn read_line(
@@ -64,6 +26,8 @@ pub(crate) fn read_line(
 ) -> Result<Option<(&[u8], u64)>, DataFault>
     ensures says { seen_line result ≡ says_within bytes number (line.now, ended) }
     ensures key { IfOk result (λ said. IfSome said (λ r. IsKey r.0.now)) }
+    ensures place { IfOk result (λ said. IfSome said (λ r. StandsAt line.now r.0.now)) }
+    ensures line { IfErr result (λ flaw. NamesLine flaw number) }
     ensures no_failure { IsErrOf result DataFault.Failed → ⊥ }
 {
     if bytes > MOST_BYTES {
@@ -87,6 +51,41 @@ pub(crate) fn read_line(
     read_record(number, line)
 }
 
+/// The same, with the place of the key in the line.
+pub(crate) fn read_place(
+    number: u64,
+    bytes: u64,
+    line: &[u8],
+    ended: bool,
+) -> Result<Option<KeyPlace>, DataFault>
+    ensures says { seen_place line.now result ≡ says_within bytes number (line.now, ended) }
+    ensures place { IfOk result (λ said. IfSome said (λ p. LiesIn line.now p)) }
+    ensures line { IfErr result (λ flaw. NamesLine flaw number) }
+    ensures no_failure { IsErrOf result DataFault.Failed → ⊥ }
+{
+    match read_line(number, bytes, line, ended) {
+        Ok(Some((key, count))) => Ok(Some(KeyPlace {
+            end: 3 + key.len(),
+            count,
+        })),
+        Ok(None) => Ok(None),
+        Err(fault) => Err(fault),
+    }
+}
+
+/// Why a line that is too long is refused, behind this many bytes.
+pub(crate) fn long_line(number: u64, before: u64) -> DataFault
+    requires { before ≤ 4294967296 }
+    ensures says { (l : Line) → is_long l ≡ true → says_within (before + bytes_of l) number l ≡ Err result }
+    ensures line { NamesLine result number }
+    ensures no_failure { result ≡ DataFault.Failed → ⊥ }
+{
+    if before + 65_536 > MOST_BYTES {
+        return DataFault::Limit(LimitName::DataBytes);
+    }
+    DataFault::LineTooLong(number)
+}
+
 fn is_skipped(line: &[u8]) -> bool
     ensures { result ≡ is_skipped line.now }
 {
@@ -99,6 +98,8 @@ fn is_skipped(line: &[u8]) -> bool
 fn read_record(number: u64, line: &[u8]) -> Result<Option<(&[u8], u64)>, DataFault>
     ensures says { seen_line result ≡ says_record number line.now }
     ensures key { IfOk result (λ said. IfSome said (λ r. IsKey r.0.now)) }
+    ensures place { IfOk result (λ said. IfSome said (λ r. StandsAt line.now r.0.now)) }
+    ensures line { IfErr result (λ flaw. NamesLine flaw number) }
     ensures no_failure { IsErrOf result DataFault.Failed → ⊥ }
 {
     if !line.starts_with(b"C '") {
@@ -118,7 +119,8 @@ fn read_record(number: u64, line: &[u8]) -> Result<Option<(&[u8], u64)>, DataFau
 
 /// What stands before and after the last quote.
 fn split_quote(text: &[u8]) -> Option<(&[u8], &[u8])>
-    ensures { seen_parts result ≡ at_last_quote text.now }
+    ensures parts { seen_parts result ≡ at_last_quote text.now }
+    ensures front { IfSome result (λ p. IsFront text.now p.0.now) }
 {
     let at = last_quote(text)?;
     Some((&text[..at], &text[at + 1..]))

@@ -1,8 +1,8 @@
 ghost use Rattle.std.specs.Prelude.{◌≡◌, ◌<◌, [], length, map, slice_get, IfOk, OnOk, OnErr, IsErrOf, Some, None};
 ghost use Rattle.std.specs.List.{AllByRecursion, IsDistinct};
 ghost use Rattle.std.specs.Str.{bytes_eq};
-ghost use Rattle.cov_port.specs.Key.{IsKey};
-ghost use Rattle.cov_port.specs.declared.limit.LimitName.{LimitName};
+ghost use Rattle.cov_types.specs.Key.{IsKey};
+ghost use Rattle.cov_types.specs.declared.limit.LimitName.{LimitName};
 ghost use Rattle.cov_dat.specs.Merging.{added, keys_of, limit_passed, number_of};
 ghost use Rattle.cov_dat.specs.DataText.{count_map, data_text as text_of};
 ghost use Rattle.cov_dat.specs.declared.merge_fault.MergeFault.TheVariants.{Limit};
@@ -38,7 +38,7 @@ pub struct Merged {
 impl Model for Merged {
     ghost use Rattle.std.specs.Prelude.{◌≡◌, None, length};
     ghost use Rattle.std.specs.List.{AllByRecursion};
-    ghost use Rattle.cov_port.specs.Key.{IsKey};
+    ghost use Rattle.cov_types.specs.Key.{IsKey};
     ghost use Rattle.cov_dat.specs.Merging.{Counts, key_bytes, limit_passed};
 
     ghost Value = { Counts };

@@ -1,9 +1,10 @@
 ghost use Rattle.std.specs.Prelude.{◌≡◌, ◌≤◌, ◌<◌, ◌+◌, length, IfOk, IfErr, IfSome, IfNone, IsErrOf, OnErr};
-ghost use Rattle.cov_port.specs.Key.{IsKey};
+ghost use Rattle.cov_types.specs.Key.{IsKey};
 ghost use Rattle.cov_dat.specs.Reading.{nothing_read, only_fault, reading, with_record};
 
 use crate::fault::DataFault;
-use crate::line::{cut_line, line_bytes, read_line};
+use crate::line::read_line;
+use cov_port::{cut_line, line_bytes};
 use std::marker::Model;
 
 /// Reads the records of a data file's text one after the other.
@@ -47,6 +48,7 @@ impl<'a> TextReader<'a> {
         ensures record { IfOk result (λ next. IfSome next (λ r. self.old ≡ with_record r.0.now r.1 self.new)) }
         ensures key { IfOk result (λ next. IfSome next (λ r. IsKey r.0.now)) }
         ensures end { IfOk result (λ next. IfNone next (self.old ≡ nothing_read)) }
+        ensures ended { IfOk result (λ next. IfNone next (self.new ≡ nothing_read)) }
         ensures fault { IfErr result (λ fault. self.old ≡ only_fault fault) }
         ensures stays { OnErr result (self.new ≡ self.old) }
         ensures no_failure { IsErrOf result DataFault.Failed → ⊥ }

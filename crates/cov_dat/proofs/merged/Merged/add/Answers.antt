@@ -1,6 +1,6 @@
 use Rattle.std.proofs.Common.{rules, ◌≡◌, ℕ, ◌+◌, length, true, false, is_some, None, sym, ap, subst, ◌∙◌}
 use Rattle.std.specs.List.{AllByRecursion}
-use Rattle.cov_port.specs.Key.{IsKey}
+use Rattle.cov_types.specs.Key.{IsKey}
 use Rattle.cov_dat.specs.Merging.{Counts, added, key_bytes, limit_passed}
 use Rattle.cov_dat.specs.KeyTable.{has_key}
 use Rattle.cov_dat.proofs.FaultLemmas.{limit-of_limit}
