@@ -1,4 +1,5 @@
 pub mod BitLemmas
 pub mod PartLaws
+pub mod ResultLaws
 pub mod SizeLaws
 pub mod Widths

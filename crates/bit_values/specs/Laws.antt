@@ -1,13 +1,70 @@
 -- Laws of the calls' values, over every width. A value of w bits is a number below 2 ^ w.
-use Rattle.std.specs.Prelude.{◌≡◌, ℕ, ◌+◌, ◌-◌, ◌^◌, ◌<◌, ◌≤◌, Bool, true, false, ℤ, pos, ◌+ℤ◌, ◌-ℤ◌, ◌<ℤ◌, ◌≤ℤ◌}
+use Rattle.std.specs.Prelude.{◌≡◌, ℕ, zero, suc, ◌+◌, ◌-◌, ◌%◌, ◌^◌, ◌<◌, ◌≤◌, ◌↔◌, min, max, bit_and, bit_or, bit_xor, Bool, true, false, ℤ, pos, ◌+ℤ◌, ◌-ℤ◌, ◌<ℤ◌, ◌≤ℤ◌}
 use Rattle.std.specs.Int.{bit_at}
-use Rattle.bit_values.specs.Values.{modulo, signed, bit_in, not, shl, shr, sar, extend, truncate, concat, select, replace}
+use Rattle.bit_values.specs.Values.{modulo, signed, bit_in, add, sub, mul, neg, udiv, urem, sdiv, srem, not, red_and, red_or, red_xor, shl, shr, sar, extend, truncate, concat, select, replace}
 
 -- ---- results are values of their width
 
 -- an integer modulo 2 ^ w has w bits
 abbrev pub ModuloFits : Type 0
 ModuloFits = (w : ℕ) (z : ℤ) → modulo w z < 2 ^ w
+
+-- sums, products and truncations have w bits
+abbrev pub AddFits : Type 0
+AddFits = (w a b : ℕ) → add w a b < 2 ^ w
+
+abbrev pub SubFits : Type 0
+SubFits = (w a b : ℕ) → sub w a b < 2 ^ w
+
+abbrev pub MulFits : Type 0
+MulFits = (w a b : ℕ) → mul w a b < 2 ^ w
+
+abbrev pub NegFits : Type 0
+NegFits = (w a : ℕ) → neg w a < 2 ^ w
+
+abbrev pub TruncateFits : Type 0
+TruncateFits = (w n : ℕ) → truncate w n < 2 ^ w
+
+-- an unsigned quotient or remainder has the bits of the first operand
+abbrev pub UdivFits : Type 0
+UdivFits = (w a b : ℕ) → a < 2 ^ w → udiv a b < 2 ^ w
+
+abbrev pub UremFits : Type 0
+UremFits = (w a b : ℕ) → a < 2 ^ w → urem a b < 2 ^ w
+
+-- a signed one has w bits
+abbrev pub SdivFits : Type 0
+SdivFits = (w a b : ℕ) → sdiv w a b < 2 ^ w
+
+abbrev pub SremFits : Type 0
+SremFits = (w a b : ℕ) → srem w a b < 2 ^ w
+
+-- what is made bit by bit of values of w bits has w bits
+abbrev pub AndFits : Type 0
+AndFits = (w a b : ℕ) → a < 2 ^ w → b < 2 ^ w → bit_and a b < 2 ^ w
+
+abbrev pub OrFits : Type 0
+OrFits = (w a b : ℕ) → a < 2 ^ w → b < 2 ^ w → bit_or a b < 2 ^ w
+
+abbrev pub XorFits : Type 0
+XorFits = (w a b : ℕ) → a < 2 ^ w → b < 2 ^ w → bit_xor a b < 2 ^ w
+
+abbrev pub NotFits : Type 0
+NotFits = (w a : ℕ) → not w a < 2 ^ w
+
+-- a shifted value has the bits it had
+abbrev pub ShlFits : Type 0
+ShlFits = (w a by : ℕ) → shl w a by < 2 ^ w
+
+abbrev pub ShrFits : Type 0
+ShrFits = (w a by : ℕ) → a < 2 ^ w → shr a by < 2 ^ w
+
+abbrev pub SarFits : Type 0
+SarFits = (w a by : ℕ) → sar w a by < 2 ^ w
+
+-- a selection of w bits has w bits
+abbrev pub SelectFits : Type 0
+SelectFits = (w n : ℕ) (low : ℤ) → select w n low < 2 ^ w
 
 -- an extension to w bits has w bits
 abbrev pub ExtendFits : Type 0
@@ -58,6 +115,35 @@ ConcatLowBits = (w high low i : ℕ) → i < w → bit_at (concat w high low) i 
 -- and above them the high part's
 abbrev pub ConcatHighBits : Type 0
 ConcatHighBits = (w high low i : ℕ) → low < 2 ^ w → w ≤ i → bit_at (concat w high low) i ≡ bit_at high (i - w)
+
+-- ---- bitwise operators and reductions
+
+-- each bit the lesser, the greater, or the sum without carry of the operands' bits
+abbrev pub AndBits : Type 0
+AndBits = (a b i : ℕ) → bit_at (bit_and a b) i ≡ min (bit_at a i) (bit_at b i)
+
+abbrev pub OrBits : Type 0
+OrBits = (a b i : ℕ) → bit_at (bit_or a b) i ≡ max (bit_at a i) (bit_at b i)
+
+abbrev pub XorBits : Type 0
+XorBits = (a b i : ℕ) → bit_at (bit_xor a b) i ≡ (bit_at a i + bit_at b i) % 2
+
+-- how many of the lowest w bits are ones
+abbrev pub ones_below : ℕ → ℕ → ℕ
+ones_below n zero = 0
+ones_below n (suc w) = ones_below n w + bit_at n w
+
+-- the reduction by `and` is 1 exactly where each bit is 1
+abbrev pub RedAndBits : Type 0
+RedAndBits = (w n : ℕ) → n < 2 ^ w → (red_and w n ≡ 1) ↔ ((i : ℕ) → i < w → bit_at n i ≡ 1)
+
+-- that by `or` is 0 exactly where each bit is 0
+abbrev pub RedOrBits : Type 0
+RedOrBits = (w n : ℕ) → n < 2 ^ w → (red_or n ≡ 0) ↔ ((i : ℕ) → i < w → bit_at n i ≡ 0)
+
+-- that by exclusive `or` is the sum of the bits without carry
+abbrev pub RedXorBits : Type 0
+RedXorBits = (w n : ℕ) → n < 2 ^ w → red_xor n ≡ ones_below n w % 2
 
 -- ---- shifts and negation
 

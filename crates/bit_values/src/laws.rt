@@ -1,7 +1,7 @@
 //! Laws of the values that the calls compute, for the proofs of other crates: a call of one of these
 //! functions does nothing, and its contract is the law.
 
-ghost use Rattle.bit_values.specs.Laws.{ModuloFits, ExtendFits, ConcatFits, ReplaceFits, ExtendKeepsSigned, TruncateUndoesExtend, ExtendBits, ExtendZeros, ExtendSigns, TruncateBits, TruncateZeros, ConcatLowBits, ConcatHighBits, NotBits, ShlZeros, ShlBits, ShrBits, SarBits, SarSigns, SelectBits, SelectZeros, SelectPastTop, SelectBelow, SelectConcatHigh, SelectConcatLow, ReplacePartBits, ReplaceLowBits, ReplaceHighBits, ReplaceZeros, ReplacePastTop, ReplaceBelow, SelectReplaced, SelectBelowReplaced, SelectAboveReplaced};
+ghost use Rattle.bit_values.specs.Laws.{ModuloFits, AddFits, SubFits, MulFits, NegFits, TruncateFits, UdivFits, UremFits, SdivFits, SremFits, AndFits, OrFits, XorFits, NotFits, ShlFits, ShrFits, SarFits, SelectFits, AndBits, OrBits, XorBits, RedAndBits, RedOrBits, RedXorBits, ExtendFits, ConcatFits, ReplaceFits, ExtendKeepsSigned, TruncateUndoesExtend, ExtendBits, ExtendZeros, ExtendSigns, TruncateBits, TruncateZeros, ConcatLowBits, ConcatHighBits, NotBits, ShlZeros, ShlBits, ShrBits, SarBits, SarSigns, SelectBits, SelectZeros, SelectPastTop, SelectBelow, SelectConcatHigh, SelectConcatLow, ReplacePartBits, ReplaceLowBits, ReplaceHighBits, ReplaceZeros, ReplacePastTop, ReplaceBelow, SelectReplaced, SelectBelowReplaced, SelectAboveReplaced};
 
 /// Results are values of their width.
 pub fn results_fit()
@@ -9,6 +9,45 @@ pub fn results_fit()
     ensures extend { ExtendFits }
     ensures concat { ConcatFits }
     ensures replace { ReplaceFits }
+{}
+
+/// Results of arithmetic are values of their width.
+pub fn arithmetic_fits()
+    ensures add { AddFits }
+    ensures sub { SubFits }
+    ensures mul { MulFits }
+    ensures neg { NegFits }
+    ensures udiv { UdivFits }
+    ensures urem { UremFits }
+    ensures sdiv { SdivFits }
+    ensures srem { SremFits }
+{}
+
+/// Results of bitwise operators, shifts and selections are values of their width.
+pub fn bitwise_fits()
+    ensures and { AndFits }
+    ensures or { OrFits }
+    ensures xor { XorFits }
+    ensures not { NotFits }
+    ensures shl { ShlFits }
+    ensures shr { ShrFits }
+    ensures sar { SarFits }
+    ensures select { SelectFits }
+    ensures truncate { TruncateFits }
+{}
+
+/// The bits of `and`, `or` and exclusive `or`.
+pub fn bitwise_bits()
+    ensures and { AndBits }
+    ensures or { OrBits }
+    ensures xor { XorBits }
+{}
+
+/// What the reductions say of the bits.
+pub fn reduction_bits()
+    ensures and { RedAndBits }
+    ensures or { RedOrBits }
+    ensures xor { RedXorBits }
 {}
 
 /// Extension by the sign bit keeps the signed reading.
