@@ -1,9 +1,8 @@
 -- What the definitions say of a few command lines, by computation.
 use Rattle.std.specs.Prelude.{◌≡◌, ℕ, false, List, [], ◌∷◌, None, Some, codes, refl}
-use Rattle.vlog_lexer.specs.Bytes.{begins_name, continues_name}
-use Rattle.vlog_lexer.specs.Identifier.{is_identifier, is_spelled}
-use Rattle.vlog_lexer.specs.Pieces.{begins_with_name}
-use Rattle.vlog_lexer.specs.Words.{word_of}
+use Rattle.vlog_words.specs.Names.{begins_name, begins_with_name, continues_name}
+use Rattle.vlog_words.specs.Identifier.{is_identifier, is_spelled}
+use Rattle.vlog_words.specs.Words.{word_of}
 use Rattle.cov_words.specs.Command.{Building, Covering, command_of, check, build, cover, selftest}
 
 -- a `build` with these options alone

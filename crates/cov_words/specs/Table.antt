@@ -1,7 +1,7 @@
 -- The commands and their options (docs/commands.md, "Words").
 use Rattle.std.specs.Prelude.{ℕ, ◌^◌, ◌-◌, Bool, true, false, is_some, List, [], ◌∷◌, Option, None, Some, codes, find}
 use Rattle.std.specs.Str.{bytes_eq}
-use Rattle.vlog_lexer.specs.Identifier.{is_identifier}
+use Rattle.vlog_words.specs.Identifier.{is_identifier}
 use Rattle.cov_words.specs.Values.{is_name, is_pattern, number_in}
 use Rattle.cov_words.specs.declared.table.CommandName.{CommandName}
 use Rattle.cov_words.specs.declared.table.CommandName.TheVariants.{Check, Build, Sim, Cover, SelfTest}

@@ -7,7 +7,7 @@ ghost use Rattle.cov_words.specs.Values as spec;
 
 use crate::table::Takes;
 use cov_port::read_dec;
-use vlog_lexer::is_identifier;
+use vlog_words::is_identifier;
 
 /// Whether the text is a name of a file or a folder.
 pub(crate) fn is_name(text: &str) -> bool

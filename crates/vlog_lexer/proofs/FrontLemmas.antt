@@ -4,19 +4,16 @@ use Rattle.std.specs.Prelude.{nat_eq, Result}
 use Rattle.std.specs.Prelude.{◌||◌}
 use Rattle.std.specs.Int.{is_in_range}
 use Rattle.std.specs.List.{prefix_len, starts_with}
-use Rattle.std.proofs.lemmas.Bool.{eqb-true, false≢true}
+use Rattle.std.proofs.lemmas.Bool.{false≢true, ne_eqb}
 use Rattle.std.proofs.lemmas.List.{drop-drop, take_rest}
-use Rattle.vlog_lexer.specs.Bytes.{begins_name, begins_number, continues_name, is_white}
+use Rattle.vlog_lexer.specs.Bytes.{begins_number, is_white}
 use Rattle.vlog_lexer.specs.Numbers.{number_of}
 use Rattle.vlog_lexer.specs.Pieces.{Front, Gives, block_comment_piece, directive_piece, front_of, line_comment_piece, name_piece, number_front, piece, string_piece, symbol_front, system_piece}
-use Rattle.vlog_lexer.specs.Symbols.{symbol_of}
 use Rattle.vlog_lexer.specs.declared.piece.Meaning.TheVariants.{Blank}
 use Rattle.vlog_lexer.specs.declared.piece.Piece.{Piece}
 use Rattle.vlog_lexer.specs.declared.piece.Stop.{Stop}
-
-apart : (a b : ℕ) (t : Bool) → eqb a b ≡ t → a ≢ b → eqb a b ≡ false
-apart a b true e n = absurd (n (eqb-true a b e))
-apart a b false e n = e
+use Rattle.vlog_words.specs.Names.{begins_name, continues_name}
+use Rattle.vlog_words.specs.Symbols.{symbol_of}
 
 same : (a b : ℕ) → a ≡ b → eqb b b ≡ true → eqb a b ≡ true
 same a b e r = ap (λ (x : ℕ). eqb x b) e ∙ r
@@ -58,12 +55,12 @@ pub at-quote : (s : List ℕ) → IsOther s → get_or s 0 0 ≡ 34 → front_of
 at-quote s o e = front-is s o.whole ∙ rw (o.white, o.name, o.number, same (get_or s 0 0) 34 e refl) refl
 
 pub at-dollar : (s : List ℕ) → IsOther s → get_or s 0 0 ≢ 34 → get_or s 0 0 ≡ 36 → front_of s ≡ system_piece (drop 1 s)
-at-dollar s o q e = front-is s o.whole ∙ rw (o.white, o.name, o.number, apart (get_or s 0 0) 34 (eqb (get_or s 0 0) 34) refl q, same (get_or s 0 0) 36 e refl) refl
+at-dollar s o q e = front-is s o.whole ∙ rw (o.white, o.name, o.number, ne_eqb (get_or s 0 0) 34 q, same (get_or s 0 0) 36 e refl) refl
 
 pub at-back : (s : List ℕ) → IsOther s → get_or s 0 0 ≢ 34 → get_or s 0 0 ≢ 36 → get_or s 0 0 ≡ 96 → front_of s ≡ directive_piece (drop 1 s)
 at-back s o q d e =
     front-is s o.whole
-    ∙ rw (o.white, o.name, o.number, apart (get_or s 0 0) 34 (eqb (get_or s 0 0) 34) refl q, apart (get_or s 0 0) 36 (eqb (get_or s 0 0) 36) refl d, same (get_or s 0 0) 96 e refl) refl
+    ∙ rw (o.white, o.name, o.number, ne_eqb (get_or s 0 0) 34 q, ne_eqb (get_or s 0 0) 36 d, same (get_or s 0 0) 96 e refl) refl
 
 -- none of the bytes that decide alone
 pub record IsMark (s : List ℕ) : Type 0 where
@@ -75,7 +72,7 @@ pub record IsMark (s : List ℕ) : Type 0 where
 mark-is : (s : List ℕ) → IsMark s → front_of s ≡ chain s false false false false false false (starts_with nat_eq s (47 ∷ (47 ∷ []))) (starts_with nat_eq s (47 ∷ (42 ∷ [])))
 mark-is s m =
     front-is s m.other.whole
-    ∙ rw (m.other.white, m.other.name, m.other.number, apart (get_or s 0 0) 34 (eqb (get_or s 0 0) 34) refl m.quote, apart (get_or s 0 0) 36 (eqb (get_or s 0 0) 36) refl m.dollar, apart (get_or s 0 0) 96 (eqb (get_or s 0 0) 96) refl m.back) refl
+    ∙ rw (m.other.white, m.other.name, m.other.number, ne_eqb (get_or s 0 0) 34 m.quote, ne_eqb (get_or s 0 0) 36 m.dollar, ne_eqb (get_or s 0 0) 96 m.back) refl
 
 pub at-line : (s : List ℕ) → IsMark s → starts_with nat_eq s (47 ∷ (47 ∷ [])) ≡ true → front_of s ≡ line_comment_piece (drop 2 s)
 at-line s m e = mark-is s m ∙ ap (λ (t : Bool). chain s false false false false false false t (starts_with nat_eq s (47 ∷ (42 ∷ [])))) e ∙ ap line_comment_piece (drop-drop 1 1 s)
@@ -105,7 +102,7 @@ begins-continues false true false e f h = refl
 begins-continues false false false true f h = refl
 begins-continues false false false false f h = absurd (false≢true h)
 
-continues : (b : ℕ) → begins_name b ≡ true → continues_name b ≡ true
+pub continues : (b : ℕ) → begins_name b ≡ true → continues_name b ≡ true
 unfolding begins_name continues_name
 continues b h = begins-continues (is_in_range 65 90 b) (is_in_range 97 122 b) (is_in_range 48 57 b) (eqb b 95) (eqb b 36) h
 

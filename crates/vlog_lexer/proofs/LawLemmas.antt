@@ -2,8 +2,8 @@
 use Rattle.std.proofs.Common.{◌≡◌, ℕ, ◌+◌, ◌<◌, ◌≤◌, ◌⊎◌, inl, inr, List, [], ◌∷◌, ◌++◌, Option, length, take, drop, Some, None, Ok, Err, refl, sym, ◌∙◌, ap, subst, arith, append_assoc, append-nil}
 use Rattle.std.specs.Prelude.{Result}
 use Rattle.std.proofs.lemmas.List.{drop_all, take_at}
-use Rattle.cov_port.specs.declared.limit.LimitName.{LimitName}
-use Rattle.cov_port.specs.declared.pragma.Pragma.{Pragma}
+use Rattle.cov_types.specs.declared.limit.LimitName.{LimitName}
+use Rattle.cov_types.specs.declared.pragma.Pragma.{Pragma}
 use Rattle.vlog_lexer.specs.Faults.{fault_at}
 use Rattle.vlog_lexer.specs.Limits.{limit_passed}
 use Rattle.vlog_lexer.specs.Pieces.{Front, front_of}

@@ -1,9 +1,9 @@
 pub mod FrontLemmas
-pub mod KeywordLemmas
 pub mod LawLemmas
 pub mod LimitLemmas
 pub mod NumberLemmas
 pub mod PlaceLemmas
 pub mod ReadingLemmas
-pub mod SymbolLaws
+pub mod SpellingLaws
 pub mod TextLemmas
+pub mod OriginLaws

@@ -5,7 +5,7 @@ use Rattle.std.proofs.Math.Nat.{pow-suc, div-add-mod', mul_assoc}
 use Rattle.std.proofs.Math.Nat.{pow-zero, mul-pos, le-mul_of_pos_right, mod-add-mod, mod-eq_of_lt, mul-add-mod_self_right}
 use Rattle.std.proofs.lemmas.List.{at_drop_all, at_drop_more, drop-drop, take_rest}
 use Rattle.std.proofs.lemmas.Nat.{mul-mod_first, pow-add}
-use Rattle.std.proofs.lemmas.Bool.{le-leb, le-ltb, lt-ltb, ltb-false, ltb-true}
+use Rattle.std.proofs.lemmas.Bool.{le-leb, le-ltb, lt-ltb, ltb-false, ltb-true, ne_eqb}
 use Rattle.std.proofs.Common.{Option, None, Some, Ok, Err, ltb, ◌/◌}
 use Rattle.std.specs.Prelude.{◌||◌}
 use Rattle.vlog_lexer.specs.declared.piece.Flaw.TheVariants.{BadNumber, NumberTooWide}
@@ -116,14 +116,10 @@ free-done base v bs i total h l inv = sym (mod-eq_of_lt h) ∙ ap (λ (n : ℕ).
 digits-cons : (b : ℕ) (bs : List ℕ) (t : Bool) → eqb b 95 ≡ t → digits_of (b ∷ bs) ≡ cond t (digits_of bs) (b ∷ digits_of bs)
 digits-cons b bs t e = rw e refl
 
-apart : (a b : ℕ) (t : Bool) → eqb a b ≡ t → a ≢ b → eqb a b ≡ false
-apart a b true e n = absurd (n (eqb-true a b e))
-apart a b false e n = e
-
 pub first-digit : (bs : List ℕ) (i : ℕ) (r : Bool) (total : List ℕ) → i < length bs → get_or bs i 0 ≢ 95 → r ≡ is_free (get_or bs i 0) → digits_of (drop i bs) ≡ total → bits_above total ≡ cond r (2 ^ 128 - 1) 0
 unfolding bits_above
 first-digit bs i r total l is e inv =
-    ap bits_above (sym inv ∙ at_drop_more digits_of bs i 0 l ∙ digits-cons (get_or bs i 0) (drop (i + 1) bs) false (apart (get_or bs i 0) 95 (eqb (get_or bs i 0) 95) refl is))
+    ap bits_above (sym inv ∙ at_drop_more digits_of bs i 0 l ∙ digits-cons (get_or bs i 0) (drop (i + 1) bs) false (ne_eqb (get_or bs i 0) 95 is))
     ∙ ap (λ (t : Bool). cond t (2 ^ 128 - 1) 0) (sym e)
 
 pub digits-on : (bs : List ℕ) (i : ℕ) (total : List ℕ) → i < length bs → get_or bs i 0 ≡ 95 → digits_of (drop i bs) ≡ total → digits_of (drop (i + 1) bs) ≡ total
@@ -201,7 +197,7 @@ based-past : (n m : ℕ) (signed : Bool) (base : ℕ) (digits : List ℕ) → 12
 unfolding based_numeral is_bad is_wide width_of may_be_free
 based-past n m signed base digits h k =
     let n0 : n ≢ 0 = omega arith in let m0 : m ≢ 0 = omega arith in
-    rw (apart n 0 (eqb n 0) refl n0, apart m 0 (eqb m 0) refl m0, lt-ltb 128 n h, lt-ltb 128 m k) refl
+    rw (ne_eqb n 0 n0, ne_eqb m 0 m0, lt-ltb 128 n h, lt-ltb 128 m k) refl
 
 capped-at : (n : ℕ) (signed : Bool) (base : ℕ) (digits : List ℕ) (t : Bool) → ltb n (2 ^ 128) ≡ t → based_numeral (Some (min n (2 ^ 128 - 1))) signed base digits ≡ based_numeral (Some n) signed base digits
 capped-at n signed base digits true e =

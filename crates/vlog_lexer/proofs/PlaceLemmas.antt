@@ -2,7 +2,7 @@
 use Rattle.std.proofs.Common.{◌≡◌, ◌≢◌, ℕ, ◌+◌, ◌<◌, Bool, true, false, cond, eqb, List, [], ◌∷◌, ◌++◌, length, get_or, take, refl, sym, ◌∙◌, ap, subst, arith, append_assoc}
 use Rattle.std.specs.Prelude.{count_by, not}
 use Rattle.std.specs.List.{prefix_len}
-use Rattle.std.proofs.lemmas.Bool.{eqb-true}
+use Rattle.std.proofs.lemmas.Bool.{ne_eqb}
 use Rattle.std.proofs.lemmas.List.{reverse-append}
 use Rattle.std.proofs.lemmas.List.Sums.{sum_by-append}
 use Rattle.std.proofs.lemmas.Grind.{take_at_read}
@@ -38,13 +38,9 @@ no_line_feed_is : (b : ℕ) → is_no_line_feed b ≡ not (is_line_feed b)
 unfolding is_no_line_feed
 no_line_feed_is b = refl
 
-apart : (a b : ℕ) (t : Bool) → eqb a b ≡ t → a ≢ b → eqb a b ≡ false
-apart a b true e n = absurd (n (eqb-true a b e))
-apart a b false e n = e
-
 other_is : (b : ℕ) → b ≢ 10 → is_line_feed b ≡ false
 unfolding is_line_feed
-other_is b n = apart b 10 (eqb b 10) refl n
+other_is b n = ne_eqb b 10 n
 
 more : (xs bs : List ℕ) (i : ℕ) → i < length bs → xs ++ take (i + 1) bs ≡ (xs ++ take i bs) ++ get_or bs i 0 ∷ []
 more xs bs i l = ap (λ (ys : List ℕ). xs ++ ys) (take_at_read bs i 0 l).1 ∙ sym (append_assoc xs (take i bs) (get_or bs i 0 ∷ []))

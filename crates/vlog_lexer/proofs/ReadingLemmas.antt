@@ -3,9 +3,9 @@ use Rattle.std.proofs.Common.{◌≡◌, ℕ, ◌+◌, ◌-◌, ◌<◌, ◌≤�
 use Rattle.std.proofs.lemmas.Bool.{leb-false, leb-true}
 use Rattle.std.proofs.lemmas.List.{reverse-append, take-append-le, take_rest, map-append, take_all}
 use Rattle.std.proofs.Math.Seq.{take-add}
-use Rattle.cov_port.specs.declared.limit.LimitName.{LimitName}
-use Rattle.cov_port.specs.declared.place.Place.{Place}
-use Rattle.cov_port.specs.declared.pragma.Pragma.{Pragma}
+use Rattle.cov_types.specs.declared.limit.LimitName.{LimitName}
+use Rattle.cov_types.specs.declared.place.Place.{Place}
+use Rattle.cov_types.specs.declared.pragma.Pragma.{Pragma}
 use Rattle.vlog_lexer.specs.Adding.{Refuses, StaysWithin}
 use Rattle.vlog_lexer.specs.Faults.{fault_at}
 use Rattle.vlog_lexer.specs.Limits.{limit_passed}

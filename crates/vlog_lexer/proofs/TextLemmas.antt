@@ -4,7 +4,7 @@ use Rattle.std.specs.Prelude.{Result, nat_eq}
 use Rattle.std.specs.List.{starts_with}
 use Rattle.std.specs.Option.{option_map}
 use Rattle.std.specs.Str.{bytes_eq}
-use Rattle.std.proofs.lemmas.Bool.{eqb-false, eqb-true}
+use Rattle.std.proofs.lemmas.Bool.{eqb-false, eqb-true, ne_eqb}
 use Rattle.std.proofs.lemmas.List.{at_drop_all, at_drop_more, drop-drop, take_rest}
 use Rattle.vlog_lexer.specs.Comments.{as_space, begins_with_gaps, block_length, squeezed}
 use Rattle.vlog_lexer.specs.Texts.{GoodAt, behind_first, bytes_of, closes, escaped, first_byte, is_plain, plain_byte, quoted_length, takes_next}
@@ -12,10 +12,6 @@ use Rattle.vlog_lexer.specs.Texts.{GoodAt, behind_first, bytes_of, closes, escap
 -- what is left of a text, by its first byte
 rest_is : (s : List ℕ) (i : ℕ) → i < length s → take (length s - i) (drop i s) ≡ get_or s i 0 ∷ drop (i + 1) s
 rest_is s i l = take_rest s i ∙ at_drop_more (λ (xs : List ℕ). xs) s i 0 l
-
-apart : (a b : ℕ) (t : Bool) → eqb a b ≡ t → a ≢ b → eqb a b ≡ false
-apart a b true e n = absurd (n (eqb-true a b e))
-apart a b false e n = e
 
 -- a count behind so many bytes
 abbrev pub behind : ℕ → Option ℕ → Option ℕ
@@ -64,7 +60,7 @@ quoted-ends s i taken total l is inv =
 quoted-goes : (s : List ℕ) (i : ℕ) (taken r : Bool) → i < length s → get_or s i 0 ≢ 10 → r ≡ closes taken (get_or s i 0) → quoted_length taken (drop i s) ≡ quote_turn taken (get_or s i 0) (drop (i + 1) s) false r
 quoted-goes s i taken r l is e =
     quoted-turn s i taken l
-    ∙ ap (λ (t : Bool). quote_turn taken (get_or s i 0) (drop (i + 1) s) t (closes taken (get_or s i 0))) (apart (get_or s i 0) 10 (eqb (get_or s i 0) 10) refl is)
+    ∙ ap (λ (t : Bool). quote_turn taken (get_or s i 0) (drop (i + 1) s) t (closes taken (get_or s i 0))) (ne_eqb (get_or s i 0) 10 is)
     ∙ ap (λ (t : Bool). quote_turn taken (get_or s i 0) (drop (i + 1) s) false t) (sym e)
 
 pub quoted-here : (s : List ℕ) (i : ℕ) (taken r : Bool) (total : Option ℕ) → i < length s → get_or s i 0 ≢ 10 → r ≡ closes taken (get_or s i 0) → r ≡ true → behind i (quoted_length taken (drop i s)) ≡ total → Some i ≡ total
@@ -103,7 +99,7 @@ pub same-end : (x : ℕ) (xs w : List ℕ) (k : ℕ) → length w ≤ k → byte
 same-end x xs w k l = at_drop_all (λ (ys : List ℕ). bytes_eq (x ∷ xs) ys) w k l
 
 pub same-other : (x : ℕ) (xs w : List ℕ) (k : ℕ) → k < length w → x ≢ get_or w k 0 → bytes_eq (x ∷ xs) (drop k w) ≡ false
-same-other x xs w k l n = at_drop_more (λ (ys : List ℕ). bytes_eq (x ∷ xs) ys) w k 0 l ∙ rw (apart x (get_or w k 0) (eqb x (get_or w k 0)) refl n) refl
+same-other x xs w k l n = at_drop_more (λ (ys : List ℕ). bytes_eq (x ∷ xs) ys) w k 0 l ∙ rw (ne_eqb x (get_or w k 0) n) refl
 
 eqb-same : (a : ℕ) (t : Bool) → eqb a a ≡ t → eqb a a ≡ true
 eqb-same a true e = e
@@ -163,7 +159,7 @@ pub first_byte-plain : (s : List ℕ) → 2 ≤ length s → get_or s 0 0 ≢ 92
 unfolding first_byte
 first_byte-plain [] l is = absurd (omega arith)
 first_byte-plain (b ∷ []) l is = absurd (omega arith)
-first_byte-plain (b ∷ (c ∷ s)) l is = sym (ap (λ (t : Bool). cond t (option_map (λ d. (d, 2)) (escaped c)) (plain_byte b)) (apart b 92 (eqb b 92) refl is))
+first_byte-plain (b ∷ (c ∷ s)) l is = sym (ap (λ (t : Bool). cond t (option_map (λ d. (d, 2)) (escaped c)) (plain_byte b)) (ne_eqb b 92 is))
 
 -- the bytes of a string behind those that are read, from so many bytes of its text
 abbrev pub joined : List ℕ → ℕ → Result (List ℕ) ℕ → Result (List ℕ) ℕ

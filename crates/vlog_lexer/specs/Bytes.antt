@@ -1,6 +1,6 @@
 -- Classes of bytes.
 use Rattle.std.specs.Prelude.{ℕ, ◌==◌, ◌||◌, Bool}
-use Rattle.std.specs.Char.{is_ascii_alphabetic, is_ascii_alphanumeric, is_ascii_digit, is_ascii_hexdigit, is_ascii_whitespace}
+use Rattle.std.specs.Char.{is_ascii_digit, is_ascii_hexdigit, is_ascii_whitespace}
 
 -- a space, tab, line feed, form feed or carriage return (IEEE 1364-2005, 3.2; carriage return: own)
 unfoldable pub is_white : ℕ → Bool
@@ -12,14 +12,6 @@ is_gap b = b == 32 || b == 9
 
 unfoldable pub is_line_feed : ℕ → Bool
 is_line_feed b = b == 10
-
--- what an identifier begins with: a letter or `_` (IEEE 1364-2005, 3.7)
-unfoldable pub begins_name : ℕ → Bool
-begins_name b = is_ascii_alphabetic b || b == 95
-
--- and what follows: letters, digits, `_` and `$`
-unfoldable pub continues_name : ℕ → Bool
-continues_name b = is_ascii_alphanumeric b || b == 95 || b == 36
 
 -- what a plain decimal goes on with: digits and `_` (IEEE 1364-2005, 3.5.1)
 unfoldable pub continues_decimal : ℕ → Bool

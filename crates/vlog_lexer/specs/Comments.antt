@@ -3,8 +3,8 @@ use Rattle.std.specs.Prelude.{ℕ, ◌+◌, ◌-◌, ◌&&◌, Bool, false, List
 use Rattle.std.specs.List.{prefix_len, starts_with, suffix_len}
 use Rattle.std.specs.Option.{option_map}
 use Rattle.std.specs.Str.{bytes_eq}
-use Rattle.cov_port.specs.declared.pragma.PragmaKind.{PragmaKind}
-use Rattle.cov_port.specs.declared.pragma.PragmaKind.TheVariants.{Off, On, BlockOff}
+use Rattle.cov_types.specs.declared.pragma.PragmaKind.{PragmaKind}
+use Rattle.cov_types.specs.declared.pragma.PragmaKind.TheVariants.{Off, On, BlockOff}
 use Rattle.vlog_lexer.specs.Bytes.{is_gap}
 use Rattle.std.specs.Char.{is_ascii_whitespace}
 

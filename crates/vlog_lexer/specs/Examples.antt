@@ -1,17 +1,17 @@
 -- What the definitions say of a few texts, by computation.
 use Rattle.std.specs.Prelude.{◌≡◌, true, false, [], ◌∷◌, ◌++◌, Some, Ok, Err, codes, refl}
-use Rattle.cov_port.specs.declared.pragma.PragmaKind.TheVariants.{BlockOff}
-use Rattle.vlog_lexer.specs.Bytes.{begins_name, begins_number, continues_decimal, continues_digits, continues_name, is_free, is_gap, is_line_feed, is_white}
+use Rattle.cov_types.specs.declared.pragma.PragmaKind.TheVariants.{BlockOff}
+use Rattle.vlog_lexer.specs.Bytes.{begins_number, continues_decimal, continues_digits, is_free, is_gap, is_line_feed, is_white}
 use Rattle.vlog_lexer.specs.Comments.{as_space, begins_with_gap, begins_with_gaps, pragma_of, squeezed, trimmed}
 use Rattle.vlog_lexer.specs.Numbers.{base_of, based_numeral, begins_with_quote, begins_with_sign, behind_base, behind_quote, behind_sign, bits_above, bits_of, digit_value, free_bits, free_digit, is_bad, is_digit_of, is_digit_or_underscore, is_in_order, is_wide, may_be_free, number_of, number_value, numeral, plain_numeral, size_of, value_digit, width_of}
 use Rattle.vlog_lexer.specs.Pieces.{front_of, is_no_line_feed, name_piece, piece, refusal, string_piece}
 use Rattle.vlog_lexer.specs.Places.{column_after, line_after, place_after}
-use Rattle.vlog_lexer.specs.Symbols.{symbol_of}
 use Rattle.vlog_lexer.specs.Texts.{bytes_of, closes, escaped, is_plain, plain_byte, quoted_length, takes_next}
-use Rattle.vlog_lexer.specs.Words.{word_of}
 use Rattle.vlog_lexer.specs.declared.piece.Flaw.TheVariants as flaw
 use Rattle.vlog_lexer.specs.declared.piece.Meaning.TheVariants.{Token}
 use Rattle.vlog_tokens.specs.declared.token.TokenKind.TheVariants as k
+use Rattle.vlog_words.specs.Names.{begins_name, continues_name}
+use Rattle.vlog_words.specs.Words.{word_of}
 
 -- a digit of another base is wrong at the number's first byte
 digit_of_another_base : front_of (codes "4'b2;") ≡ refusal flaw.BadNumber 0
@@ -42,11 +42,6 @@ cut_to_size = refl
 question_behind_decimal : number_of (codes "1?2:3") ≡ Ok (numeral 32 true 1 0, 1)
 unfolding number_of continues_decimal begins_with_quote plain_numeral is_wide width_of bits_of number_value value_digit digit_value is_free
 question_behind_decimal = refl
-
--- the longest operator is taken
-longest_operator : symbol_of (codes "<<<=b") ≡ Some (k.ArithmeticShiftLeft, 3)
-unfolding symbol_of
-longest_operator = refl
 
 -- the longest identifier is taken
 longest_word : name_piece (codes "always_ff @") ≡ piece (Token k.AlwaysFf) 9

@@ -1,5 +1,5 @@
 -- Faults of a text.
-use Rattle.cov_port.specs.declared.place.Place.{Place}
+use Rattle.cov_types.specs.declared.place.Place.{Place}
 use Rattle.vlog_lexer.specs.declared.fault.LexFault.{LexFault}
 use Rattle.vlog_lexer.specs.declared.fault.LexFault.TheVariants as fault
 use Rattle.vlog_lexer.specs.declared.piece.Flaw.{Flaw}

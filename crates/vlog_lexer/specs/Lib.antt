@@ -3,9 +3,7 @@ pub mod Bytes
 pub mod Comments
 pub mod Examples
 pub mod Faults
-pub mod Identifier
 pub mod Inside
-pub mod LateKinds
 pub mod Limits
 pub mod LimitsKept
 pub mod Numbers
@@ -13,8 +11,7 @@ pub mod Pieces
 pub mod PlaceKept
 pub mod Places
 pub mod Reading
-pub mod SymbolTable
-pub mod Symbols
 pub mod TextReading
+pub mod Spellings
 pub mod Texts
-pub mod Words
+pub mod Origins

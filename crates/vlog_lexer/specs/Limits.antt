@@ -1,7 +1,8 @@
 -- Limits on tokens. A list of tokens so far has the latest first.
-use Rattle.std.specs.Prelude.{ℕ, ◌+◌, ◌-◌, nat_lt, List, [], ◌∷◌, length, Option, None, Some, if◌then◌else◌}
-use Rattle.cov_port.specs.declared.limit.LimitName.{LimitName}
-use Rattle.cov_port.specs.declared.limit.LimitName.TheVariants as limit
+use Rattle.std.specs.Prelude.{ℕ, ◌+◌, ◌-◌, ◌&&◌, ◌||◌, Bool, true, false, not, nat_lt, List, [], ◌∷◌, length, count_by, Option, None, Some, if◌then◌else◌}
+use Rattle.std.specs.List.{take_while}
+use Rattle.cov_types.specs.declared.limit.LimitName.{LimitName}
+use Rattle.cov_types.specs.declared.limit.LimitName.TheVariants as limit
 use Rattle.vlog_lexer.specs.declared.limits.Role.{Role}
 use Rattle.vlog_lexer.specs.declared.limits.Role.TheVariants as r
 use Rattle.vlog_tokens.specs.declared.token.TokenKind.{TokenKind}
@@ -85,26 +86,44 @@ abbrev pub braces : List TokenKind → ℕ
 braces [] = 0
 braces (kind ∷ before) = braced (role_of kind) (braces before)
 
--- operators since the last `;`, and commas that stand in braces
-abbrev pub operated : Role → ℕ → ℕ → ℕ
-operated r.Operates open_braces before = before + 1
-operated r.Separates open_braces before = if nat_lt 0 open_braces then before + 1 else before
-operated r.Ends open_braces before = 0
-operated _ open_braces before = before
+-- each token with those before it
+abbrev pub with_those_before : List TokenKind → List (TokenKind × List TokenKind)
+with_those_before [] = []
+with_those_before (kind ∷ before) = (kind, before) ∷ with_those_before before
 
+abbrev pub is_operator : Role → Bool
+is_operator r.Operates = true
+is_operator _ = false
+
+abbrev pub is_comma : Role → Bool
+is_comma r.Separates = true
+is_comma _ = false
+
+abbrev pub is_semicolon : Role → Bool
+is_semicolon r.Ends = true
+is_semicolon _ = false
+
+-- an operator, or a comma while a brace is open
+abbrev pub counts_as_operator : TokenKind × List TokenKind → Bool
+counts_as_operator token = is_operator (role_of token.0) || (is_comma (role_of token.0) && nat_lt 0 (braces token.1))
+
+-- how many of them stand since the latest `;`
 abbrev pub operators : List TokenKind → ℕ
-operators [] = 0
-operators (kind ∷ before) = operated (role_of kind) (braces before) (operators before)
+operators tokens = count_by counts_as_operator (take_while (λ token. not (is_semicolon (role_of token.0))) (with_those_before tokens))
 
--- `if` and `for` since the last word that begins a process, a function or a module
-abbrev pub branched : Role → ℕ → ℕ
-branched r.Branches before = before + 1
-branched r.Process before = 0
-branched _ before = before
+-- `if` and `for`
+abbrev pub is_branch : Role → Bool
+is_branch r.Branches = true
+is_branch _ = false
 
+-- a word that begins a process, a function or a module
+abbrev pub begins_process : Role → Bool
+begins_process r.Process = true
+begins_process _ = false
+
+-- how many branches stand since the latest word that begins a process, a function or a module
 abbrev pub branches : List TokenKind → ℕ
-branches [] = 0
-branches (kind ∷ before) = branched (role_of kind) (branches before)
+branches tokens = count_by (λ kind. is_branch (role_of kind)) (take_while (λ kind. not (begins_process (role_of kind))) tokens)
 
 -- the bytes of a name; other tokens have no limit on their bytes
 abbrev pub name_length : TokenKind → ℕ

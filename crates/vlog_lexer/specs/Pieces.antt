@@ -2,13 +2,11 @@
 use Rattle.std.specs.Prelude.{◌≡◌, ℕ, ◌+◌, ◌==◌, ◌||◌, Bool, false, not, List, [], ◌∷◌, drop, take, Option, None, Some, Result, Ok, Err, codes, nat_eq, if◌then◌else◌}
 use Rattle.std.specs.List.{prefix_len, starts_with, take_while}
 use Rattle.std.specs.Str.{bytes_eq}
-use Rattle.cov_port.specs.declared.pragma.PragmaKind.{PragmaKind}
-use Rattle.vlog_lexer.specs.Bytes.{is_white, is_line_feed, begins_name, begins_number, continues_name}
+use Rattle.cov_types.specs.declared.pragma.PragmaKind.{PragmaKind}
+use Rattle.vlog_lexer.specs.Bytes.{is_white, is_line_feed, begins_number}
 use Rattle.vlog_lexer.specs.Comments.{block_length, pragma_of}
 use Rattle.vlog_lexer.specs.Numbers.{Counted, number_of}
-use Rattle.vlog_lexer.specs.Symbols.{symbol_of}
 use Rattle.vlog_lexer.specs.Texts.{bytes_of, quoted_length}
-use Rattle.vlog_lexer.specs.Words.{word_of}
 use Rattle.vlog_lexer.specs.declared.number.Numeral.{Numeral}
 use Rattle.vlog_lexer.specs.declared.piece.Flaw.{Flaw}
 use Rattle.vlog_lexer.specs.declared.piece.Flaw.TheVariants as flaw
@@ -20,6 +18,9 @@ use Rattle.vlog_lexer.specs.declared.piece.Stop.{Stop}
 use Rattle.vlog_lexer.specs.declared.piece.Stop.TheVariants.{Refused, NoMemory}
 use Rattle.vlog_tokens.specs.declared.token.TokenKind.{TokenKind}
 use Rattle.vlog_tokens.specs.declared.token.TokenKind.TheVariants as k
+use Rattle.vlog_words.specs.Names.{begins_name, begins_with_name, continues_name}
+use Rattle.vlog_words.specs.Symbols.{symbol_of}
+use Rattle.vlog_words.specs.Words.{word_of}
 
 -- the piece at the front of a text, or what is wrong there
 abbrev pub Front : Type 0
@@ -48,10 +49,6 @@ name_piece text =
     let bytes = take_while continues_name text in
     if starts_with nat_eq bytes (codes "cov$") then refusal flaw.ReservedName 0
     else piece (Token (word_or_name (word_of bytes) bytes)) (prefix_len continues_name text)
-
-unfoldable pub begins_with_name : List ℕ → Bool
-begins_with_name [] = false
-begins_with_name (b ∷ text) = begins_name b
 
 -- a `$` and an identifier's bytes (3.7.3); text is what follows the `$`
 unfoldable pub system_piece : List ℕ → Front

@@ -1,7 +1,7 @@
 -- Lines and columns, both counted from 1, columns in bytes.
 use Rattle.std.specs.Prelude.{ℕ, ◌+◌, List, count_by}
 use Rattle.std.specs.List.{suffix_len}
-use Rattle.cov_port.specs.declared.place.Place.{Place}
+use Rattle.cov_types.specs.declared.place.Place.{Place}
 use Rattle.vlog_lexer.specs.Bytes.{is_line_feed}
 use Rattle.vlog_lexer.specs.Pieces.{is_no_line_feed}
 

@@ -1,8 +1,8 @@
 -- A text as a sequence of pieces, and what reading it gives.
 use Rattle.std.specs.Prelude.{◌≡◌, ℕ, ◌+◌, ◌<◌, List, [], ◌∷◌, ◌++◌, length, take, drop, map, reverse, None, Some, Result, Ok, Err}
-use Rattle.cov_port.specs.declared.limit.LimitName.{LimitName}
-use Rattle.cov_port.specs.declared.place.Place.{Place}
-use Rattle.cov_port.specs.declared.pragma.Pragma.{Pragma}
+use Rattle.cov_types.specs.declared.limit.LimitName.{LimitName}
+use Rattle.cov_types.specs.declared.place.Place.{Place}
+use Rattle.cov_types.specs.declared.pragma.Pragma.{Pragma}
 use Rattle.vlog_lexer.specs.Faults.{fault_at}
 use Rattle.vlog_lexer.specs.Limits.{limit_passed}
 use Rattle.vlog_lexer.specs.Pieces.{front_of}

@@ -19,20 +19,6 @@ pub(crate) fn is_gap(byte: u8) -> bool
     byte == b' ' || byte == b'\t'
 }
 
-#[tactic(auto, unfolding(crate::specs::Bytes::begins_name))]
-pub(crate) fn begins_name(byte: u8) -> bool
-    ensures { result ≡ spec.begins_name byte }
-{
-    byte.is_ascii_alphabetic() || byte == b'_'
-}
-
-#[tactic(auto, unfolding(crate::specs::Bytes::continues_name))]
-pub(crate) fn continues_name(byte: u8) -> bool
-    ensures { result ≡ spec.continues_name byte }
-{
-    byte.is_ascii_alphanumeric() || byte == b'_' || byte == b'$'
-}
-
 #[tactic(auto, unfolding(crate::specs::Bytes::continues_decimal))]
 fn continues_decimal(byte: u8) -> bool
     ensures { result ≡ spec.continues_decimal byte }
@@ -66,16 +52,6 @@ fn is_no_line_feed(byte: u8) -> bool
     ensures { result ≡ pieces.is_no_line_feed byte }
 {
     byte != b'\n'
-}
-
-/// How many bytes of an identifier the text begins with.
-pub(crate) fn name_len(text: &[u8]) -> usize
-    ensures value { result ≡ prefix_len spec.continues_name text.now }
-    ensures within { result ≤ length text.now }
-{
-    text.iter()
-        .take_while(|byte| continues_name(**byte))
-        .count()
 }
 
 /// How many bytes of a plain decimal the text begins with.

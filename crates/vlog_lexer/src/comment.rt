@@ -7,7 +7,7 @@ ghost use Rattle.vlog_lexer.specs.Pieces as pieces;
 
 use crate::bytes::is_gap;
 use crate::piece::Meaning;
-use cov_port::PragmaKind;
+use cov_types::PragmaKind;
 
 /// How many bytes stand before the next `*/`, where there is one.
 pub(crate) fn block_len(text: &[u8]) -> Option<usize>

@@ -2,7 +2,7 @@ ghost use Rattle.std.specs.Prelude.{◌≡◌};
 ghost use Rattle.vlog_lexer.specs.Faults.{fault_at};
 
 use crate::piece::Flaw;
-use cov_port::{LimitName, Place};
+use cov_types::{LimitName, Place};
 use thiserror::Error;
 
 /// What keeps a text from being read as tokens: the first fault of the text, and its place.

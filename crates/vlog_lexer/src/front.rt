@@ -2,29 +2,29 @@
 
 ghost use Rattle.std.specs.Prelude.{◌≡◌, ◌+◌, ◌<◌, ◌≤◌, ◌^◌, true, length, drop, slice_index, Ok};
 ghost use Rattle.vlog_lexer.specs.Numbers as numbers;
-ghost use Rattle.vlog_lexer.specs.Symbols as symbols;
+ghost use Rattle.vlog_words.specs.Symbols as symbols;
 ghost use Rattle.vlog_lexer.specs.declared.piece.Meaning.TheVariants.{Blank};
 ghost use Rattle.vlog_lexer.specs.Pieces as spec;
 ghost use Rattle.vlog_lexer.specs.Pieces.{Gives};
 ghost use Rattle.vlog_lexer.specs.Bytes as bytes;
+ghost use Rattle.vlog_words.specs.Names as names;
 ghost use Rattle.vlog_lexer.specs.Inside.{IsInside};
 
-use crate::bytes::{begins_name, begins_number, is_white, line_len, name_len};
+use crate::bytes::{begins_number, is_white, line_len};
 use crate::comment::{block_len, comment_meaning};
-use crate::keyword::word_of;
 use crate::number::number_of;
 use crate::piece::{Flaw, Meaning, Piece, Stop, refused, token};
 use crate::quoted::string_piece;
-use crate::symbol::symbol_of;
-use cov_port::ByteText;
+use cov_types::ByteText;
 use std::alloc::Global;
 use vlog_tokens::TokenKind;
+use vlog_words::{begins_name, begins_with_name, name_len, symbol_of, word_of};
 
 /// The identifier at the front of a text.
 #[tactic(auto, unfolding(crate::specs::Pieces::name_piece))]
 fn name_piece(alloc: Global, text: &[u8]) -> Result<Piece, Stop>
     requires whole { 0 < length text.now }
-    requires first { bytes.begins_name (slice_index text.now 0) ≡ true }
+    requires first { names.begins_name (slice_index text.now 0) ≡ true }
     ensures value { Gives (spec.name_piece text.now) result }
     ensures within { IsInside (length text.now) result }
 {
@@ -39,16 +39,6 @@ fn name_piece(alloc: Global, text: &[u8]) -> Result<Piece, Stop>
     match ByteText::from_slice(alloc, bytes) {
         Err(_) => Err(Stop::NoMemory),
         Ok(name) => Ok(token(TokenKind::Name(name), len)),
-    }
-}
-
-#[tactic(auto, unfolding(crate::specs::Pieces::begins_with_name))]
-pub(crate) fn begins_with_name(text: &[u8]) -> bool
-    ensures { result ≡ spec.begins_with_name text.now }
-{
-    match text {
-        [] => false,
-        [first, ..] => begins_name(*first),
     }
 }
 

@@ -5,9 +5,6 @@ mod bytes;
 mod comment;
 mod fault;
 mod front;
-mod identifier;
-mod keyword;
-mod late;
 mod law;
 mod limits;
 mod number;
@@ -16,13 +13,12 @@ mod position;
 mod quoted;
 mod reading;
 mod sending;
-mod symbol;
 #[cfg(test)]
 mod tests;
 
-pub use cov_port::{ByteText, LimitName, NoMemory, Place, Pragma, PragmaKind, Rows};
+pub use cov_types::{ByteText, LimitName, NoMemory, Place, Pragma, PragmaKind, Rows};
 pub use fault::LexFault;
-pub use identifier::is_identifier;
-pub use law::{longest_name, longest_symbol, one_reading};
+pub use law::{longest_name, one_reading, places_from_one, spelled_numbers, spelled_strings};
 pub use reading::tokens;
 pub use vlog_tokens::{Token, TokenKind, TokenList};
+pub use vlog_words::{is_identifier, longest_symbol};

@@ -2,10 +2,11 @@
 
 ghost use Rattle.std.specs.Prelude.{◌≡◌, ◌+◌, ◌<◌, ◌≤◌, ◌^◌, ◌∷◌, List, []};
 ghost use Rattle.vlog_lexer.specs.Limits as spec;
+ghost use Rattle.vlog_lexer.specs.LimitsKept as kept;
 ghost use Rattle.vlog_lexer.specs.LimitsKept.{AreCounts};
 ghost use Rattle.vlog_tokens.specs.declared.token.TokenKind.{TokenKind};
 
-use cov_port::LimitName;
+use cov_types::LimitName;
 use vlog_tokens::TokenKind;
 
 /// What a token is to the limits.
@@ -126,7 +127,7 @@ fn braced(role: Role, before: usize) -> usize
 
 fn operated(role: Role, braces: usize, before: usize) -> usize
     requires { before + 1 < 2 ^ 64 }
-    ensures value { result ≡ spec.operated role braces before }
+    ensures value { result ≡ kept.operated role braces before }
     ensures small { result ≤ before + 1 }
 {
     match role {
@@ -139,7 +140,7 @@ fn operated(role: Role, braces: usize, before: usize) -> usize
 
 fn branched(role: Role, before: usize) -> usize
     requires { before + 1 < 2 ^ 64 }
-    ensures value { result ≡ spec.branched role before }
+    ensures value { result ≡ kept.branched role before }
     ensures small { result ≤ before + 1 }
 {
     match role {
@@ -164,6 +165,7 @@ impl Counts {
     }
 
     /// The counts with one token more.
+    #[tactic(auto, using(crate::proofs::LimitLemmas::operators_next, crate::proofs::LimitLemmas::branches_next))]
     pub(crate) fn with_token(self, kind: &TokenKind) -> Counts
         requires nesting { self.nesting + 1 < 2 ^ 64 }
         requires braces { self.braces + 1 < 2 ^ 64 }

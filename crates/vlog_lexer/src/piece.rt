@@ -2,7 +2,7 @@ ghost use Rattle.std.specs.Prelude.{◌≡◌};
 ghost use Rattle.vlog_lexer.specs.declared.piece.Meaning.TheVariants.{Token};
 ghost use Rattle.vlog_lexer.specs.declared.piece.Stop.TheVariants.{Refused};
 
-use cov_port::PragmaKind;
+use cov_types::PragmaKind;
 use vlog_tokens::TokenKind;
 
 /// What is wrong with a text, apart from where.

@@ -4,7 +4,7 @@ ghost use Rattle.std.specs.Prelude.{◌≡◌, ℕ, ◌+◌, ◌<◌, ◌≤◌,
 ghost use Rattle.vlog_lexer.specs.Places as spec;
 ghost use Rattle.vlog_lexer.specs.PlaceKept.{IsPosition};
 
-use cov_port::Place;
+use cov_types::Place;
 
 /// A line and a column, both counted from 1.
 #[derive(Clone, Copy)]

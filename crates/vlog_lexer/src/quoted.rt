@@ -9,7 +9,7 @@ ghost use Rattle.vlog_lexer.specs.Inside.{IsInside};
 ghost use Rattle.vlog_lexer.specs.TextReading.{IsRead};
 
 use crate::piece::{Flaw, Piece, Stop, refused, token};
-use cov_port::ByteText;
+use cov_types::ByteText;
 use std::alloc::Global;
 use vlog_tokens::TokenKind;
 

@@ -13,7 +13,7 @@ use crate::front::front_of;
 use crate::limits::Counts;
 use crate::piece::{Meaning, Piece, Stop};
 use crate::position::Position;
-use cov_port::{Place, Pragma, Rows};
+use cov_types::{Place, Pragma, Rows};
 use std::alloc::Global;
 use vlog_tokens::{Token, TokenList};
 

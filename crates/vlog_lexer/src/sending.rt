@@ -1,5 +1,5 @@
 use crate::fault::LexFault;
-use cov_port::{NoMemory, Pragma};
+use cov_types::{NoMemory, Pragma};
 
 fn crosses_threads<T: Send + Sync>(_value: &T) {}
 

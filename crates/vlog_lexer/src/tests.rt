@@ -1,6 +1,6 @@
 //! Tables of texts, with what the definitions say of them.
 
-use crate::{LexFault, PragmaKind, TokenKind, is_identifier, tokens};
+use crate::{LexFault, PragmaKind, TokenKind, tokens};
 use std::alloc::Global;
 use std::fmt::Write;
 use std::test::Fail;
@@ -379,32 +379,6 @@ fn limits(rt: HostRuntime) -> Result<(), Fail> {
         } else {
             assert_eq!(rt; got.as_str(), want, "of {parts:?}");
         }
-    }
-    Ok(())
-}
-
-#[test]
-fn identifiers(rt: HostRuntime) -> Result<(), Fail> {
-    for (text, want) in [
-        ("a", true),
-        ("_", true),
-        ("Top_1$x", true),
-        ("wires", true),
-        ("Wire", true),
-        ("cov", true),
-        ("cov_$", true),
-        ("xcov$", true),
-        ("", false),
-        ("1a", false),
-        ("$a", false),
-        ("a b", false),
-        ("a-b", false),
-        ("wire", false),
-        ("always_ff", false),
-        ("cov$", false),
-        ("cov$x", false),
-    ] {
-        assert_eq!(rt; is_identifier(text.as_bytes()), want);
     }
     Ok(())
 }

@@ -1,4 +1,4 @@
-use cov_port::{ByteText, Place};
+use cov_types::{ByteText, Place};
 
 /// What a token is.
 ///

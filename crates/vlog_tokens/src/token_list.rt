@@ -1,5 +1,5 @@
 use crate::token::Token;
-use cov_port::{Pragma, Rows};
+use cov_types::{Pragma, Rows};
 
 /// The tokens of a text and its coverage comments, each in the order of the text.
 #[derive(Debug, Drop)]

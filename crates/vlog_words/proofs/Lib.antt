@@ -1,0 +1,3 @@
+pub mod KeywordLemmas
+pub mod SymbolLaws
+pub mod TableLemmas
