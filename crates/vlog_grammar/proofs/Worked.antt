@@ -1,6 +1,6 @@
 -- Small token lists and their trees.
 use Rattle.std.proofs.Common.{◌≡◌, ℕ, List, [], ◌∷◌, Option, Some, None, refl, ap}
-use Rattle.cov_port.specs.declared.place.Place.{Place}
+use Rattle.cov_types.specs.declared.place.Place.{Place}
 use Rattle.vlog_tokens.specs.declared.token.TokenKind.{TokenKind}
 use Rattle.vlog_tokens.specs.declared.token.TokenKind.TheVariants as k
 use Rattle.vlog_tree.specs.declared.operator.BinaryOp.TheVariants as binary
@@ -8,9 +8,10 @@ use Rattle.vlog_tree.specs.declared.expression.Expr.{Expr}
 use Rattle.vlog_tree.specs.declared.expression.Expr.TheVariants as e
 use Rattle.vlog_tree.specs.declared.expression.Select.TheVariants as select
 use Rattle.vlog_tree.specs.declared.statement.StmtKind.TheVariants as s
+use Rattle.vlog_tree.specs.Trees.{stmt}
 use Rattle.vlog_grammar.specs.Tokens.{Tokens, at, NotNext}
 use Rattle.vlog_grammar.specs.Expressions.{IsExpr, plain, IsBinary, operand, higher, joined, IsUnary, primary, part, name, twice, several, between, SpellsExpr}
-use Rattle.vlog_grammar.specs.Statements.{stmt, if_alone, if_else, empty, SpellsStmt}
+use Rattle.vlog_grammar.specs.Statements.{if_alone, if_else, empty, SpellsStmt}
 use Rattle.vlog_grammar.specs.Items.{no_items}
 use Rattle.vlog_grammar.specs.Modules.{IsModule, a_module, no_header, no_list}
 

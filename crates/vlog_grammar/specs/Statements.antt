@@ -1,25 +1,20 @@
 -- The grammar of statements (IEEE 1364-2005, procedural statements; docs/formats.md, "Grammar").
 use Rattle.std.specs.Prelude.{◌≡◌, ◌==◌, ℕ, Bool, true, false, List, [], ◌∷◌, Option, Some, None, codes}
-use Rattle.cov_port.specs.declared.place.Place.{Place}
+use Rattle.cov_types.specs.declared.place.Place.{Place}
 use Rattle.vlog_tokens.specs.declared.token.Token.{Token}
 use Rattle.vlog_tokens.specs.declared.token.TokenKind.TheVariants as k
 use Rattle.vlog_tree.specs.declared.expression.Expr.{Expr}
 use Rattle.vlog_tree.specs.declared.expression.Expr.TheVariants as e
-use Rattle.vlog_tree.specs.declared.statement.Stmt.{Stmt, roll-Stmt}
+use Rattle.vlog_tree.specs.declared.statement.Stmt.{Stmt}
 use Rattle.vlog_tree.specs.declared.statement.StmtKind.{StmtKind}
 use Rattle.vlog_tree.specs.declared.statement.StmtKind.TheVariants as s
-use Rattle.vlog_tree.specs.declared.statement.CaseArm.{CaseArm, roll-CaseArm}
+use Rattle.vlog_tree.specs.declared.statement.CaseArm.{CaseArm}
+use Rattle.vlog_tree.specs.Trees.{stmt, case_arm}
 use Rattle.vlog_grammar.specs.Tokens.{Tokens, at, NotNext}
 use Rattle.vlog_grammar.specs.Parts.{AreSeparated}
 use Rattle.vlog_grammar.specs.Expressions.{IsExpr, AreExprs, IsTarget}
 
-abbrev pub stmt : Place → StmtKind → Stmt
-stmt p what = roll-Stmt (record { place = p; what = what })
-
-abbrev pub arm : Place → List Expr → Stmt → CaseArm
-arm p items body = roll-CaseArm (record { place = p; items = items; body = body })
-
--- the head of a `for`: "(" id "=" expr ";" expr ";" id "=" expr ")"
+-- head = "(" name "=" expr ";" expr ";" name "=" expr ")"
 pub data IsForHead : Tokens → List ℕ → Expr → Expr → List ℕ → Expr → Tokens → Type 0 where
   for_head : {us vs ws xs : Tokens} {p1 p2 p3 p4 p5 p6 p7 p8 : Place} {name step_name : List ℕ} {from test step : Expr}
       → IsExpr us from (at p4 k.Semicolon ∷ vs) → IsExpr vs test (at p5 k.Semicolon ∷ at p6 (k.Name step_name) ∷ at p7 k.EqualSign ∷ ws)
@@ -33,7 +28,7 @@ pub data IsCaseItem : Bool → Tokens → Expr → Tokens → Type 0 where
   free_item : {us : Tokens} {p : Place} {width value free : ℕ} {signed : Bool} → (free == 0) ≡ false
       → IsCaseItem true (at p (k.Number width signed value free) ∷ us) (e.Number width signed value free) us
 
--- [ "(" [ string { "," expr } ] ")" ] of a `$display`
+-- what a `$display` has: nothing | "(" ")" | "(" text ")" | "(" text "," expr, .. ")"
 pub data IsShown : Tokens → Option (List ℕ) → List Expr → Tokens → Type 0 where
   no_parentheses : {us : Tokens} → NotNext k.OpenParen us → IsShown us None [] us
   no_text : {us : Tokens} {p q : Place} → IsShown (at p k.OpenParen ∷ at q k.CloseParen ∷ us) None [] us
@@ -43,13 +38,13 @@ pub data IsShown : Tokens → Option (List ℕ) → List Expr → Tokens → Typ
       → AreExprs us values (at o k.CloseParen ∷ vs)
       → IsShown (at p k.OpenParen ∷ at q (k.Text text) ∷ at r k.Comma ∷ us) (Some text) values vs
 
--- [ "(" number ")" ] of a `$finish` or a `$stop`, the number being without free bits
+-- stop = nothing | "(" number ")", the number being without free bits
 pub data IsEnding : Tokens → Tokens → Type 0 where
   no_number : {us : Tokens} → NotNext k.OpenParen us → IsEnding us us
   with_number : {us : Tokens} {p q r : Place} {width value : ℕ} {signed : Bool}
       → IsEnding (at p k.OpenParen ∷ at q (k.Number width signed value 0) ∷ at r k.CloseParen ∷ us) us
 
--- [ ":" id ] after a `begin`
+-- the name of a block, after its `begin`: nothing | ":" name
 pub data IsBlockName : Tokens → Tokens → Type 0 where
   named : {us : Tokens} {p q : Place} {name : List ℕ} → IsBlockName (at p k.Colon ∷ at q (k.Name name) ∷ us) us
   unnamed : {us : Tokens} → NotNext k.Colon us → IsBlockName us us
@@ -58,10 +53,10 @@ mutual
   pub data IsStmt : Tokens → Stmt → Tokens → Type 0 where
     -- ";"
     empty : {us : Tokens} {p : Place} → IsStmt (at p k.Semicolon ∷ us) (stmt p s.Empty) us
-    -- "begin" [ ":" id ] { stmt } "end"
+    -- "begin" stmt* "end" | "begin" ":" name stmt* "end"
     block : {us vs ws : Tokens} {p q : Place} {body : List Stmt}
         → IsBlockName us vs → AreStmts vs body (at q k.End ∷ ws) → IsStmt (at p k.Begin ∷ us) (stmt p (s.Block body q)) ws
-    -- "if" "(" expr ")" stmt [ "else" stmt ]
+    -- "if" "(" expr ")" stmt | "if" "(" expr ")" stmt "else" stmt
     -- An `else` belongs to the nearest `if` that has none: none follows an `if` without one.
     if_alone : {us vs ws : Tokens} {p q r : Place} {test : Expr} {first : Stmt}
         → IsExpr us test (at r k.CloseParen ∷ vs) → IsStmt vs first ws → NotNext k.Else ws
@@ -69,40 +64,40 @@ mutual
     if_else : {us vs ws xs : Tokens} {p q r o : Place} {test : Expr} {first second : Stmt}
         → IsExpr us test (at r k.CloseParen ∷ vs) → IsStmt vs first (at o k.Else ∷ ws) → IsStmt ws second xs
         → IsStmt (at p k.If ∷ at q k.OpenParen ∷ us) (stmt p (s.If test first (Some second))) xs
-    -- ( "case" | "casez" ) "(" expr ")" arm { arm } "endcase"
+    -- "case" "(" expr ")" arm arm* "endcase" | "casez" "(" expr ")" arm arm* "endcase"
     case : {us vs ws : Tokens} {p q r o : Place} {on : Expr} {arms : List CaseArm}
         → IsExpr us on (at r k.CloseParen ∷ vs) → AreArms false false vs arms (at o k.EndCase ∷ ws)
         → IsStmt (at p k.Case ∷ at q k.OpenParen ∷ us) (stmt p (s.Case false on arms)) ws
     casez : {us vs ws : Tokens} {p q r o : Place} {on : Expr} {arms : List CaseArm}
         → IsExpr us on (at r k.CloseParen ∷ vs) → AreArms true false vs arms (at o k.EndCase ∷ ws)
         → IsStmt (at p k.CaseZ ∷ at q k.OpenParen ∷ us) (stmt p (s.Case true on arms)) ws
-    -- "for" "(" id "=" expr ";" expr ";" id "=" expr ")" stmt
+    -- "for" head stmt
     for : {us vs ws : Tokens} {p : Place} {name step_name : List ℕ} {from test step : Expr} {body : Stmt}
         → IsForHead us name from test step_name step vs → IsStmt vs body ws
         → IsStmt (at p k.For ∷ us) (stmt p (s.For name from test step_name step body)) ws
-    -- lvalue ( "=" | "<=" ) expr ";"
+    -- target "=" expr ";" | target "<=" expr ";"
     set : {us vs ws : Tokens} {t : Token} {q r : Place} {target value : Expr}
         → IsTarget (t ∷ us) target (at q k.EqualSign ∷ vs) → IsExpr vs value (at r k.Semicolon ∷ ws)
         → IsStmt (t ∷ us) (stmt t.place (s.Set target value)) ws
     later : {us vs ws : Tokens} {t : Token} {q r : Place} {target value : Expr}
         → IsTarget (t ∷ us) target (at q k.LessOrEqual ∷ vs) → IsExpr vs value (at r k.Semicolon ∷ ws)
         → IsStmt (t ∷ us) (stmt t.place (s.Later target value)) ws
-    -- "$display" [ "(" [ string { "," expr } ] ")" ] ";"
+    -- "$display" ";" | "$display" "(" ")" ";" | "$display" "(" text ")" ";" | "$display" "(" text "," expr, .. ")" ";"
     show : {us vs : Tokens} {p q : Place} {name : List ℕ} {text : Option (List ℕ)} {values : List Expr}
         → name ≡ codes "$display" → IsShown us text values (at q k.Semicolon ∷ vs)
         → IsStmt (at p (k.System name) ∷ us) (stmt p (s.Show text values)) vs
-    -- ( "$finish" | "$stop" ) [ "(" number ")" ] ";"
+    -- "$finish" stop ";" | "$stop" stop ";"
     finish : {us vs : Tokens} {p q : Place} {name : List ℕ}
         → name ≡ codes "$finish" → IsEnding us (at q k.Semicolon ∷ vs) → IsStmt (at p (k.System name) ∷ us) (stmt p s.Finish) vs
     stop : {us vs : Tokens} {p q : Place} {name : List ℕ}
         → name ≡ codes "$stop" → IsEnding us (at q k.Semicolon ∷ vs) → IsStmt (at p (k.System name) ∷ us) (stmt p s.Stop) vs
 
-  -- { stmt }
+  -- stmt*
   pub data AreStmts : Tokens → List Stmt → Tokens → Type 0 where
     no_stmts : {ts : Tokens} → AreStmts ts [] ts
     more_stmts : {ts us vs : Tokens} {a : Stmt} {all : List Stmt} → IsStmt ts a us → AreStmts us all vs → AreStmts ts (a ∷ all) vs
 
-  -- arm { arm }, of a `casez` where the first `Bool` says so. There is at most one default: the second `Bool` says
+  -- arm arm*, of a `casez` where the first `Bool` says so. There is at most one default: the second `Bool` says
   -- whether one stands before.
   pub data AreArms : Bool → Bool → Tokens → List CaseArm → Tokens → Type 0 where
     last_arm : {wild seen : Bool} {ts us : Tokens} {a : CaseArm} → IsArm wild ts a us → AreArms wild seen ts (a ∷ []) us
@@ -112,17 +107,17 @@ mutual
     more_after_default : {wild : Bool} {ts us vs : Tokens} {a : CaseArm} {all : List CaseArm}
         → IsDefault ts a us → AreArms wild true us all vs → AreArms wild false ts (a ∷ all) vs
 
-  -- expr { "," expr } ":" stmt
+  -- arm = case_item, .. ":" stmt
   pub data IsArm : Bool → Tokens → CaseArm → Tokens → Type 0 where
     listed : {wild : Bool} {us vs ws : Tokens} {t : Token} {q : Place} {items : List Expr} {body : Stmt}
         → AreSeparated (IsCaseItem wild) (t ∷ us) items (at q k.Colon ∷ vs) → IsStmt vs body ws
-        → IsArm wild (t ∷ us) (arm t.place items body) ws
+        → IsArm wild (t ∷ us) (case_arm t.place items body) ws
 
-  -- "default" [ ":" ] stmt
+  -- arm = "default" ":"? stmt
   pub data IsDefault : Tokens → CaseArm → Tokens → Type 0 where
     default_colon : {us vs : Tokens} {p q : Place} {body : Stmt}
-        → IsStmt us body vs → IsDefault (at p k.Default ∷ at q k.Colon ∷ us) (arm p [] body) vs
-    default_plain : {us vs : Tokens} {p : Place} {body : Stmt} → IsStmt us body vs → IsDefault (at p k.Default ∷ us) (arm p [] body) vs
+        → IsStmt us body vs → IsDefault (at p k.Default ∷ at q k.Colon ∷ us) (case_arm p [] body) vs
+    default_plain : {us vs : Tokens} {p : Place} {body : Stmt} → IsStmt us body vs → IsDefault (at p k.Default ∷ us) (case_arm p [] body) vs
 
 -- The tokens, all of them, spell the statement.
 abbrev pub SpellsStmt : Tokens → Stmt → Type 0

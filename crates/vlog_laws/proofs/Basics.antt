@@ -1,12 +1,13 @@
 -- Steps of reading, seen from what they found.
-use Rattle.std.proofs.Common.{◌≡◌, ℕ, ◌<◌, Bool, true, false, cond, ◌==◌, ◌⊎◌, [], ◌∷◌, Option, Some, None, refl, sym, ◌∙◌, ap, subst, inl, inr, arith, eqb-true, eq-eqb, lit<}
-use Rattle.cov_port.specs.declared.place.Place.{Place}
+use Rattle.std.proofs.Common.{◌≡◌, ℕ, ◌<◌, Bool, true, false, cond, ◌==◌, ◌⊎◌, [], ◌∷◌, Option, Some, None, refl, sym, ◌∙◌, ap, subst, inl, inr, arith}
+use Rattle.std.proofs.Common.{eqb-true, eq-eqb, lit<}
+use Rattle.cov_types.specs.declared.place.Place.{Place}
 use Rattle.vlog_tokens.specs.declared.token.TokenKind.{TokenKind}
 use Rattle.vlog_tokens.specs.declared.token.TokenKind.TheVariants as k
 use Rattle.vlog_tree.specs.declared.operator.BinaryOp.{BinaryOp}
 use Rattle.vlog_grammar.specs.Tokens.{Tokens, at, NotNext, infix_of, tightest}
-use Rattle.vlog_laws.specs.Marks.{mark}
-use Rattle.vlog_laws.specs.Reading.{Parser, and_then, sees, after, expect, rest_of, next_infix}
+use Rattle.vlog_reading.specs.Marks.{mark}
+use Rattle.vlog_reading.specs.Reading.{Parser, and_then, sees, after, expect, rest_of, next_infix}
 pub use Rattle.vlog_laws.proofs.Marked.{of_mark, same_Some, same_mark}
 
 -- the level of the operator that comes next, or 0
@@ -189,5 +190,6 @@ before R {ts} {us} {vs} {a} e h = subst (λ x. R x a us) e h
 pub onto : {A : Type 0} (R : Tokens → A → Tokens → Type 0) {ts us vs : Tokens} {a : A} → us ≡ vs → R ts a us → R ts a vs
 onto R {ts} {us} {vs} {a} e h = subst (λ x. R ts a x) e h
 
-pub same : {A : Type 0} (R : Tokens → A → Tokens → Type 0) {ts us vs : Tokens} {a b : A} → ◌≡◌ {A = Option (A × Tokens)} (Some (a, us)) (Some (b, vs)) → R ts a us → R ts b vs
+pub same : {A : Type 0} (R : Tokens → A → Tokens → Type 0) {ts us vs : Tokens} {a b : A} → ◌≡◌ {A = Option (A × Tokens)} (Some (a, us)) (Some (b, vs))
+    → R ts a us → R ts b vs
 same R {ts} {us} {vs} {a} {b} e h = let p : (a, us) ≡ (b, vs) = same_Some (a, us) (b, vs) e in subst (λ x. R ts x.0 x.1) p h

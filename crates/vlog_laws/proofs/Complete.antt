@@ -1,6 +1,7 @@
 -- What is spelled as an expression is read so.
-use Rattle.std.proofs.Common.{◌≡◌, ℕ, zero, suc, ◌+◌, ◌-◌, ◌<◌, ◌≤◌, max, false, ◌==◌, List, [], ◌∷◌, ◌++◌, length, Option, Some, None, refl, sym, ◌∙◌, ap, subst, arith, append_assoc, ltb, lt-ltb, le-ltb, add-one}
-use Rattle.cov_port.specs.declared.place.Place.{Place}
+use Rattle.std.proofs.Common.{◌≡◌, ℕ, zero, suc, ◌+◌, ◌-◌, ◌<◌, ◌≤◌, max, false, ◌==◌, List, [], ◌∷◌, ◌++◌, length, Option, Some, None, refl, sym, ◌∙◌, ap}
+use Rattle.std.proofs.Common.{subst, arith, append_assoc, ltb, lt-ltb, le-ltb, add-one}
+use Rattle.cov_types.specs.declared.place.Place.{Place}
 use Rattle.vlog_tokens.specs.declared.token.TokenKind.{TokenKind}
 use Rattle.vlog_tokens.specs.declared.token.TokenKind.TheVariants as k
 use Rattle.vlog_tree.specs.declared.operator.UnaryOp.{UnaryOp}
@@ -10,11 +11,14 @@ use Rattle.vlog_tree.specs.declared.expression.Expr.{Expr}
 use Rattle.vlog_tree.specs.declared.expression.Expr.TheVariants as e
 use Rattle.vlog_tree.specs.declared.expression.Select.{Select}
 use Rattle.vlog_grammar.specs.Tokens.{Tokens, at, NotNext, infix_of, prefix_of, call_of, tightest}
-use Rattle.vlog_grammar.specs.Expressions.{IsExpr, plain, choice, IsBinary, operand, higher, joined, IsUnary, prefix, primary, IsPrimary, number, part, inner, join, repeat, call, IsPart, name, position, slice, twice, IsSelect, single, several, IsSlice, between, up, down, AreExprs, last, more, SpellsExpr}
-use Rattle.vlog_laws.specs.Marks.{mark}
-use Rattle.vlog_laws.specs.Reading.{Parser, and_then, sees, next_infix}
-use Rattle.vlog_laws.specs.ReadExpressions as read
-use Rattle.vlog_laws.proofs.Basics.{level_at, Ends, ends_at, ends_empty, not_seen, sees_other, infix_at_front, goes, goes_mark, eat_yes, eat_no, eat_other, and_then_some, next_low, same_Some}
+use Rattle.vlog_grammar.specs.Expressions.{IsExpr, plain, choice, IsBinary, operand, higher, joined, IsUnary, prefix, primary, IsPrimary, number, part, inner}
+use Rattle.vlog_grammar.specs.Expressions.{join, repeat, call, IsPart, name, position, slice, twice, IsSelect, single, several, IsSlice, between, up, down}
+use Rattle.vlog_grammar.specs.Expressions.{AreExprs, last, more, SpellsExpr}
+use Rattle.vlog_reading.specs.Marks.{mark}
+use Rattle.vlog_reading.specs.Reading.{Parser, and_then, sees, next_infix}
+use Rattle.vlog_reading.specs.ReadExpressions as read
+use Rattle.vlog_laws.proofs.Basics.{level_at, Ends, ends_at, ends_empty, not_seen, sees_other, infix_at_front, goes, goes_mark, eat_yes, eat_no, eat_other}
+use Rattle.vlog_laws.proofs.Basics.{and_then_some, next_low, same_Some}
 use Rattle.vlog_laws.proofs.Shorter.{shorter_expr, shorter_binary, shorter_unary, shorter_exprs}
 
 module _ (expr : ℕ → Parser Expr) (d : ℕ)
@@ -28,11 +32,12 @@ module _ (expr : ℕ → Parser Expr) (d : ℕ)
     before close p ts us a none other tree deep = whole ts (at p close ∷ us) a deep tree (ends_at close p us none other)
 
     pub within_complete : (close : TokenKind) (p : Place) (ts us : Tokens) (a : Expr) → infix_of close ≡ None → (mark close == mark k.Question) ≡ false
-        → IsExpr ts a (at p close ∷ us) → length ts ≤ d → read.within expr close ts ≡ Some (a, us)
-    unfolding read.within
+        → IsExpr ts a (at p close ∷ us) → length ts ≤ d → read.nested_before expr close ts ≡ Some (a, us)
+    unfolding read.nested_before
     within_complete close p ts us a none other tree deep = goes _ (before close p ts us a none other tree deep) (goes_mark close p us _ refl)
 
-    pub list_complete : (t : ℕ) (found all : List Expr) (ts us : Tokens) → AreExprs ts all us → length ts ≤ t → length ts ≤ d → Ends us → sees k.Comma us ≡ false
+    pub list_complete : (t : ℕ) (found all : List Expr) (ts us : Tokens) → AreExprs ts all us → length ts ≤ t → length ts ≤ d → Ends us
+        → sees k.Comma us ≡ false
         → read.list_from expr t found ts ≡ Some (found ++ all, us)
     unfolding read.list_from
     list_complete zero found all ts us list turns deep ends none = absurd (omega (arith, shorter_exprs list))
@@ -48,17 +53,19 @@ module _ (expr : ℕ → Parser Expr) (d : ℕ)
         → read.list expr found ts ≡ Some (found ++ all, at p k.CloseBrace ∷ us)
     unfolding read.list
     in_braces found all p ts us list deep =
-        list_complete (length ts) found all ts (at p k.CloseBrace ∷ us) list (omega arith) deep (ends_at k.CloseBrace p us refl refl) (sees_other k.Comma k.CloseBrace p us refl)
+        list_complete (length ts) found all ts (at p k.CloseBrace ∷ us) list (omega arith) deep (ends_at k.CloseBrace p us refl refl)
+        (sees_other k.Comma k.CloseBrace p us refl)
 
-    repeated_complete : (n : Expr) (all : List Expr) (r s : Place) (ts us : Tokens) → AreExprs ts all (at r k.CloseBrace ∷ at s k.CloseBrace ∷ us) → length ts ≤ d
+    repeated_complete : (n : Expr) (all : List Expr) (r s : Place) (ts us : Tokens) → AreExprs ts all (at r k.CloseBrace ∷ at s k.CloseBrace ∷ us)
+        → length ts ≤ d
         → read.repeated expr n ts ≡ Some (e.Repeat n all, us)
     unfolding read.repeated
     repeated_complete n all r s ts us list deep =
         goes _ (in_braces [] all r ts (at s k.CloseBrace ∷ us) list deep) (goes_mark k.CloseBrace r _ _ (goes_mark k.CloseBrace s us _ refl))
 
     join_complete : (all : List Expr) (q : Place) (ts us : Tokens) → AreExprs ts all (at q k.CloseBrace ∷ us) → length ts ≤ d
-        → read.braces expr ts ≡ Some (e.Join all, us)
-    unfolding read.braces read.joined read.others
+        → read.in_braces expr ts ≡ Some (e.Join all, us)
+    unfolding read.in_braces read.joined read.others
     join_complete all q ts us (last {a = a} one) deep =
         goes _ (before k.CloseBrace q ts us a refl refl one deep) (eat_other k.OpenBrace k.CloseBrace q us _ _ refl
         (goes _ (eat_other k.Comma k.CloseBrace q us _ _ refl refl) (goes_mark k.CloseBrace q us _ refl)))
@@ -108,17 +115,18 @@ module _ (expr : ℕ → Parser Expr) (d : ℕ)
         let s = slice_complete some ts us tree deep in
         goes _ s.4 (eat_other k.CloseBracket s.1 s.2 s.3 _ _ s.5 s.6)
 
-    again_none : (base : Expr) (us : Tokens) → NotNext k.OpenBracket us → read.again expr base us ≡ Some (base, us)
-    unfolding read.again
+    again_none : (base : Expr) (us : Tokens) → NotNext k.OpenBracket us → read.second_select expr base us ≡ Some (base, us)
+    unfolding read.second_select
     again_none base us none = eat_no k.OpenBracket us _ _ (not_seen k.OpenBracket us refl none) refl
 
     again_some : (base : Expr) (some : Select) (q : Place) (ts us : Tokens) → IsSelect ts some us → length ts ≤ d
-        → read.again expr base (at q k.OpenBracket ∷ ts) ≡ Some (e.Select base some, us)
-    unfolding read.again
+        → read.second_select expr base (at q k.OpenBracket ∷ ts) ≡ Some (e.Select base some, us)
+    unfolding read.second_select
     again_some base some q ts us tree deep = eat_yes k.OpenBracket q ts _ _ (goes _ (select_complete some ts us tree deep) refl)
 
-    pub part_complete : (p : Place) (s : List ℕ) (ts us : Tokens) (a : Expr) → IsPart (at p (k.Name s) ∷ ts) a us → length ts ≤ d → read.named expr s ts ≡ Some (a, us)
-    unfolding read.named read.bracketed
+    pub part_complete : (p : Place) (s : List ℕ) (ts us : Tokens) (a : Expr) → IsPart (at p (k.Name s) ∷ ts) a us → length ts ≤ d
+        → read.part_after_name expr s ts ≡ Some (a, us)
+    unfolding read.part_after_name read.part_after_bracket
     part_complete p s ts us a (name none) deep = eat_no k.OpenBracket us _ _ (not_seen k.OpenBracket us refl none) refl
     part_complete p s ts us a (position {us = vs} {q = q} {r = r} {a = b} one none) deep =
         eat_yes k.OpenBracket q vs _ _ (goes _ (before k.CloseBracket r vs us b refl refl one (omega arith))
@@ -130,32 +138,35 @@ module _ (expr : ℕ → Parser Expr) (d : ℕ)
         eat_yes k.OpenBracket q vs _ _ (goes _ (before k.CloseBracket r vs (at t k.OpenBracket ∷ ws) b refl refl one (omega arith))
         (eat_yes k.CloseBracket r (at t k.OpenBracket ∷ ws) _ _ (again_some _ some t ws us tree (omega (arith, shorter_expr one)))))
 
-    part_operand : (a : Expr) (ts us : Tokens) → IsPart ts a us → length ts ≤ suc d → read.operand expr ts ≡ Some (a, us)
-    unfolding read.operand
+    part_operand : (a : Expr) (ts us : Tokens) → IsPart ts a us → length ts ≤ suc d → read.unary_or_primary expr ts ≡ Some (a, us)
+    unfolding read.unary_or_primary
     part_operand a ts us (name {p = p} {s = s} none) deep = part_complete p s us us a (name none) (omega arith)
-    part_operand a ts us (position {us = vs} {p = p} {q = q} {s = s} one none) deep = part_complete p s (at q k.OpenBracket ∷ vs) us a (position one none) (omega arith)
+    part_operand a ts us (position {us = vs} {p = p} {q = q} {s = s} one none) deep = part_complete p s (at q k.OpenBracket ∷ vs) us a (position one none)
+        (omega arith)
     part_operand a ts us (slice {us = vs} {p = p} {q = q} {s = s} tree) deep = part_complete p s (at q k.OpenBracket ∷ vs) us a (slice tree) (omega arith)
-    part_operand a ts us (twice {us = vs} {p = p} {q = q} {s = s} one tree) deep = part_complete p s (at q k.OpenBracket ∷ vs) us a (twice one tree) (omega arith)
+    part_operand a ts us (twice {us = vs} {p = p} {q = q} {s = s} one tree) deep = part_complete p s (at q k.OpenBracket ∷ vs) us a (twice one tree)
+        (omega arith)
 
     call_complete : (a : Expr) (what : SystemCall) (found : Option SystemCall) (q r : Place) (ts us : Tokens) → found ≡ Some what
-        → IsExpr ts a (at r k.CloseParen ∷ us) → length ts ≤ d → read.called expr found (at q k.OpenParen ∷ ts) ≡ Some (e.Call what a, us)
+        → IsExpr ts a (at r k.CloseParen ∷ us) → length ts ≤ d → read.system_function expr found (at q k.OpenParen ∷ ts) ≡ Some (e.Call what a, us)
     call_complete a what found q r ts us known tree deep =
-        ap (λ f. read.called expr f (at q k.OpenParen ∷ ts)) known ∙ goes_mark k.OpenParen q ts _
+        ap (λ f. read.system_function expr f (at q k.OpenParen ∷ ts)) known ∙ goes_mark k.OpenParen q ts _
         (goes _ (within_complete k.CloseParen r ts us a refl refl tree deep) refl)
 
-    primary_complete : (a : Expr) (ts us : Tokens) → IsPrimary ts a us → length ts ≤ suc d → read.operand expr ts ≡ Some (a, us)
-    unfolding read.operand read.braces
+    primary_complete : (a : Expr) (ts us : Tokens) → IsPrimary ts a us → length ts ≤ suc d → read.unary_or_primary expr ts ≡ Some (a, us)
+    unfolding read.unary_or_primary read.in_braces
     primary_complete a ts us number deep = refl
     primary_complete a ts us (part tree) deep = part_operand a ts us tree deep
     primary_complete a ts us (inner {us = vs} {q = q} one) deep = within_complete k.CloseParen q vs us a refl refl one (omega arith)
     primary_complete a ts us (join {us = vs} {q = q} {all = all} list) deep = join_complete all q vs us list (omega arith)
     primary_complete a ts us (repeat {us = xs} {vs = vs} {q = q} {r = r} {s = s} {n = n} {all = all} one list) deep =
-        goes _ (before k.OpenBrace q xs vs n refl refl one (omega arith)) (eat_yes k.OpenBrace q vs _ _ (repeated_complete n all r s vs us list (omega (arith, shorter_expr one))))
+        goes _ (before k.OpenBrace q xs vs n refl refl one (omega arith)) (eat_yes k.OpenBrace q vs _ _ (repeated_complete n all r s vs us list
+        (omega (arith, shorter_expr one))))
     primary_complete a ts us (call {us = vs} {q = q} {r = r} {name = s} {what = what} {a = of} known one) deep =
         call_complete of what (call_of s) q r vs us known one (omega arith)
 
     operand_prefix : (kind : TokenKind) (op : UnaryOp) (ts : Tokens) → prefix_of kind ≡ Some op
-        → read.operand_by expr (Some kind) ts ≡ read.prefixed expr (Some op) ts
+        → read.unary_or_primary_by expr (Some kind) ts ≡ read.prefixed expr (Some op) ts
     operand_prefix (k.Number width signed value free) op ts h = absurd cc
     operand_prefix (k.Name s) op ts h = absurd cc
     operand_prefix (k.System s) op ts h = absurd cc
@@ -163,8 +174,8 @@ module _ (expr : ℕ → Parser Expr) (d : ℕ)
     operand_prefix k.OpenBrace op ts h = absurd cc
     operand_prefix kind op ts h = ap (λ o. read.prefixed expr o ts) h
 
-    operand_complete : (a : Expr) (ts us : Tokens) → IsUnary ts a us → length ts ≤ suc d → read.operand expr ts ≡ Some (a, us)
-    unfolding read.operand
+    operand_complete : (a : Expr) (ts us : Tokens) → IsUnary ts a us → length ts ≤ suc d → read.unary_or_primary expr ts ≡ Some (a, us)
+    unfolding read.unary_or_primary
     operand_complete a ts us (prefix {us = vs} {a = of} {p = p} {kind = kind} {op = op} known tree) deep =
         operand_prefix kind op (at p kind ∷ vs) known ∙ goes _ (unary vs us of (omega arith) tree) refl
     operand_complete a ts us (primary tree) deep = primary_complete a ts us tree deep
@@ -174,7 +185,8 @@ module _ (expr : ℕ → Parser Expr) (d : ℕ)
     climb_done None least t a r low = refl
     climb_done (Some o) least t a r low = rw (lt-ltb o.0 least low) refl
 
-    climb_step : (n least t : ℕ) (op : BinaryOp) (kind : TokenKind) (p : Place) (us vs : Tokens) (a b : Expr) (out : Option (Expr × Tokens)) → 2 ≤ least → least ≤ n
+    climb_step : (n least t : ℕ) (op : BinaryOp) (kind : TokenKind) (p : Place) (us vs : Tokens) (a b : Expr) (out : Option (Expr × Tokens)) → 2 ≤ least
+        → least ≤ n
         → infix_of kind ≡ Some (n, op) → IsBinary (suc n) us b vs → length us ≤ d → level_at (next_infix vs) ≤ n
         → read.climb expr least t (e.Binary op a b) vs ≡ out
         → read.climb expr least (suc t) a (at p kind ∷ us) ≡ out
@@ -185,8 +197,8 @@ module _ (expr : ℕ → Parser Expr) (d : ℕ)
 
     climb_complete : (n least : ℕ) (a : Expr) (ts r : Tokens) (out : Option (Expr × Tokens)) → IsBinary n ts a r → 2 ≤ least → least ≤ n → length ts ≤ suc d
         → level_at (next_infix r) ≤ n → ((t : ℕ) → length r < t → read.climb expr least t a r ≡ out)
-        → and_then (read.operand expr ts) (read.operations expr least) ≡ out
-    unfolding read.operations
+        → and_then (read.unary_or_primary expr ts) (read.binary_rest expr least) ≡ out
+    unfolding read.binary_rest
     climb_complete n least a ts r out (operand tree) two low deep next h = goes _ (operand_complete a ts r tree deep) (h (length r + 1) (omega arith))
     climb_complete n least a ts r out (higher tree) two low deep next h = climb_complete (suc n) least a ts r out tree two (omega arith) deep (omega arith) h
     climb_complete n least a ts r out (joined {us = us} {a = left} {b = right} {p = p} {kind = kind} {op = op} first known second) two low deep next h =
@@ -201,7 +213,7 @@ module _ (expr : ℕ → Parser Expr) (d : ℕ)
 
     -- climbing stops at the front of what ends the operands
     climbed : (n least : ℕ) (a : Expr) (ts us : Tokens) → IsBinary n ts a us → 2 ≤ least → least ≤ n → length ts ≤ suc d → level_at (next_infix us) < least
-        → and_then (read.operand expr ts) (read.operations expr least) ≡ Some (a, us)
+        → and_then (read.unary_or_primary expr ts) (read.binary_rest expr least) ≡ Some (a, us)
     unfolding read.climb
     climbed n least a ts us tree two low deep next =
         climb_complete n least a ts us (Some (a, us)) tree two low deep (omega arith)
@@ -209,26 +221,29 @@ module _ (expr : ℕ → Parser Expr) (d : ℕ)
         let more : t ≡ suc (t - 1) = omega arith in
         subst (λ x. read.climb expr least x a us ≡ Some (a, us)) (sym more) (climb_done (next_infix us) least (t - 1) a us next))
 
-    pub level_whole : (ts us : Tokens) (a : Expr) → length ts ≤ suc d → IsExpr ts a us → Ends us → read.level expr 1 ts ≡ Some (a, us)
-    unfolding read.level read.chosen
+    pub level_whole : (ts us : Tokens) (a : Expr) → length ts ≤ suc d → IsExpr ts a us → Ends us → read.at_level expr 1 ts ≡ Some (a, us)
+    unfolding read.at_level read.conditional_rest
     level_whole ts us a deep (plain tree) ends =
-        let all = and_then_some (read.operand expr ts) _ (a, us) (climbed 2 2 a ts us tree (omega arith) (omega arith) deep (let z : level_at (next_infix us) ≡ 0 = ap level_at ends.0 in omega arith)) in
+        let all =
+        and_then_some (read.unary_or_primary expr ts) _ (a, us) (climbed 2 2 a ts us tree (omega arith) (omega arith) deep (let z : level_at
+        (next_infix us) ≡ 0 = ap level_at ends.0 in omega arith)) in
         goes _ all.2 (goes _ all.3 (eat_no k.Question us _ _ ends.1 refl))
     level_whole ts us a deep (choice {us = vs} {vs = ws} {a = test} {b = first} {c = second} {p = p} {q = q} tree one two) ends =
-        let all = and_then_some (read.operand expr ts) _ (test, at p k.Question ∷ vs)
-        (climbed 2 2 test ts (at p k.Question ∷ vs) tree (omega arith) (omega arith) deep (let z : level_at (next_infix (at p k.Question ∷ vs)) ≡ 0 = ap level_at (infix_at_front k.Question p vs) in omega arith)) in
+        let all = and_then_some (read.unary_or_primary expr ts) _ (test, at p k.Question ∷ vs)
+        (climbed 2 2 test ts (at p k.Question ∷ vs) tree (omega arith) (omega arith) deep (let z : level_at (next_infix
+        (at p k.Question ∷ vs)) ≡ 0 = ap level_at (infix_at_front k.Question p vs) in omega arith)) in
         goes _ all.2 (goes _ all.3 (eat_yes k.Question p vs _ _
         (goes _ (within_complete k.Colon q vs ws first refl refl one (omega (arith, shorter_binary tree)))
         (goes _ (whole ws us second (omega (arith, shorter_binary tree, shorter_expr one)) two ends) refl))))
 
     pub level_some : (n : ℕ) (ts us : Tokens) (a : Expr) → 2 ≤ n → length ts ≤ suc d → IsBinary n ts a us → level_at (next_infix us) < n
-        → read.level expr n ts ≡ Some (a, us)
-    unfolding read.level
+        → read.at_level expr n ts ≡ Some (a, us)
+    unfolding read.at_level
     level_some n ts us a two deep tree next =
-        let all = and_then_some (read.operand expr ts) _ (a, us) (climbed n n a ts us tree two (omega arith) deep next) in
+        let all = and_then_some (read.unary_or_primary expr ts) _ (a, us) (climbed n n a ts us tree two (omega arith) deep next) in
         let same : max n 2 ≡ n = omega arith in
         let less : ltb n 2 ≡ false = le-ltb n 2 two in
-        goes _ all.2 (goes _ (subst (λ m. read.operations expr m all.0 all.1 ≡ Some (a, us)) (sym same) all.3) (rw less refl))
+        goes _ all.2 (goes _ (subst (λ m. read.binary_rest expr m all.0 all.1 ≡ Some (a, us)) (sym same) all.3) (rw less refl))
 
 -- whatever is spelled is read, at each depth of at least as many tokens
 pub record IsComplete (expr : ℕ → Parser Expr) (d : ℕ) : Type 0 where
@@ -248,7 +263,9 @@ expr_complete (suc d) =
     record {
       whole = λ ts us a deep tree ends. level_whole (read.expr d) d below.whole below.some_level below.unary ts us a deep tree ends;
       some_level = λ n ts us a two deep tree next. level_some (read.expr d) d below.whole below.some_level below.unary n ts us a two deep tree next;
-      unary = λ ts us a deep tree. level_some (read.expr d) d below.whole below.some_level below.unary tightest ts us a (omega arith) deep (operand tree) (next_low us);
+      unary =
+          λ ts us a deep tree. level_some (read.expr d) d below.whole below.some_level below.unary tightest ts us a (omega arith) deep (operand tree)
+          (next_low us);
     }
 
 pub expression_complete : (ts us : Tokens) (a : Expr) → IsExpr ts a us → Ends us → read.expression ts ≡ Some (a, us)

@@ -1,6 +1,6 @@
 -- A part of an item that is spelled is read so.
 use Rattle.std.proofs.Common.{◌≡◌, ℕ, ◌<◌, Bool, true, false, ◌==◌, List, [], ◌∷◌, length, Option, Some, None, refl, ◌∙◌}
-use Rattle.cov_port.specs.declared.place.Place.{Place}
+use Rattle.cov_types.specs.declared.place.Place.{Place}
 use Rattle.vlog_tokens.specs.declared.token.TokenKind.{TokenKind}
 use Rattle.vlog_tokens.specs.declared.token.TokenKind.TheVariants as k
 use Rattle.vlog_tree.specs.declared.expression.Expr.{Expr}
@@ -20,11 +20,14 @@ use Rattle.vlog_grammar.specs.Tokens.{Tokens, at, infix_of}
 use Rattle.vlog_grammar.specs.Parts.{AreSeparated, last, more, IsOptional, written, absent, IsWordThere, there, missing}
 use Rattle.vlog_grammar.specs.Expressions.{IsExpr, AreExprs, IsRange, range}
 use Rattle.vlog_grammar.specs.Expressions as grammar
-use Rattle.vlog_grammar.specs.Items.{IsName, a_name, IsValue, a_value, IsWireName, wire_name, IsRegName, reg_alone, reg_words, reg_start, IsForm, plain_form, integer_form, ranged_form, IsParamName, param_name, IsAssignPart, assign_part, IsClock, star, star_inside, rising, IsNamedConn, left_open, connected, IsConns, no_conns, ordered, by_name, AreParams, no_params, params, IsInstance, instance, IsCover, cover}
-use Rattle.vlog_laws.specs.Marks.{mark}
-use Rattle.vlog_laws.specs.Reading.{Parser, sees, after}
-use Rattle.vlog_laws.specs.ReadParts as parts
-use Rattle.vlog_laws.specs.ReadItemParts as read
+use Rattle.vlog_grammar.specs.Items.{IsName, a_name, IsValue, a_value, IsWireName, wire_name, IsRegName, reg_alone, reg_words, reg_start, IsForm, plain_form}
+use Rattle.vlog_grammar.specs.Items.{integer_form, ranged_form, IsParamName, param_name, IsAssignPart, assign_part, IsClock, star, star_inside, rising}
+use Rattle.vlog_grammar.specs.Items.{IsNamedConn, left_open, connected, AreConnections, no_conns, ordered, by_name, AreParameterValues, no_params, params}
+use Rattle.vlog_grammar.specs.Items.{IsInstance, instance, IsCover, cover}
+use Rattle.vlog_reading.specs.Marks.{mark}
+use Rattle.vlog_reading.specs.Reading.{Parser, sees, after}
+use Rattle.vlog_reading.specs.ReadParts as parts
+use Rattle.vlog_reading.specs.ReadItemParts as read
 use Rattle.vlog_laws.proofs.Basics.{Ends, ends_at, of_mark, not_seen, sees_at, sees_other, after_it, after_none, goes, goes_mark, eat_yes, eat_no, eat_other}
 use Rattle.vlog_laws.proofs.Complete.{expression_complete}
 use Rattle.vlog_laws.proofs.PartsComplete.{all_complete, exprs_complete, name_complete, until_complete, whole_target_complete}
@@ -57,7 +60,7 @@ word_complete word ts us found known (there {p = p}) = (sees_at word p us, after
 word_complete word ts us found known (missing none) = (not_seen word us known none, after_none word us (not_seen word us known none))
 
 pub name_place_complete : (ts us : Tokens) (a : NamePlace) → IsName ts a us → read.name_place ts ≡ Some (a, us)
-unfolding read.name_place parts.a_name
+unfolding read.name_place parts.name_token
 name_place_complete ts us a a_name = refl
 
 pub value_complete : (ts us : Tokens) (a : Expr) → IsValue ts a us → Ends us → read.value ts ≡ Some (a, us)
@@ -67,7 +70,15 @@ value_complete ts us a (a_value {us = vs} {p = p} one) ends = goes_mark k.EqualS
 pub range_complete : (ts us : Tokens) (a : RangeExpr) → IsRange ts a us → read.range ts ≡ Some (a, us)
 unfolding read.range
 range_complete ts us a (range {us = vs} {vs = ws} {p = p} {q = q} {r = r} {a = high} {b = low} one two) =
-    goes_mark k.OpenBracket p vs _ (goes _ (until_complete k.Colon q vs ws high refl refl one) (goes _ (until_complete k.CloseBracket r ws us low refl refl two) refl))
+    goes_mark k.OpenBracket p vs _ (goes _ (until_complete k.Colon q vs ws high refl refl one) (goes _
+    (until_complete k.CloseBracket r ws us low refl refl two) refl))
+
+pub signed_range_complete : (ts vs us : Tokens) (signed : Bool) (bounds : Option RangeExpr)
+    → IsWordThere k.Signed ts signed vs → IsOptional k.OpenBracket IsRange vs bounds us → read.signed_range ts ≡ Some ((signed, bounds), us)
+unfolding read.signed_range
+signed_range_complete ts vs us signed bounds word some =
+    let it = word_complete k.Signed ts vs signed refl word in
+    rw (it.1, it.0) (goes _ (optional_complete IsRange read.range k.OpenBracket refl us (λ ws a one. range_complete ws us a one) vs bounds some) refl)
 
 optional_value_complete : (ts us : Tokens) (found : Option Expr) → IsOptional k.EqualSign IsValue ts found us → Ends us
     → read.optional read.value k.EqualSign ts ≡ Some (found, us)
@@ -182,8 +193,8 @@ named_conns_complete q ts us all list =
     all_before_complete IsNamedConn read.named_conn k.CloseParen refl refl refl (λ ts us a one ends. named_conn_complete ts us a one)
     (λ ts us a one. shorter_named_conn one) q ts us all list
 
-pub conns_complete : (ts us : Tokens) (a : Conns) → IsConns ts a us → read.conns ts ≡ Some (a, us)
-unfolding read.conns read.by_name read.in_order
+pub conns_complete : (ts us : Tokens) (a : Conns) → AreConnections ts a us → read.connections ts ≡ Some (a, us)
+unfolding read.connections read.connections_by_name read.connections_in_order
 conns_complete ts us a (no_conns {p = p} {q = q}) = goes_mark k.OpenParen p _ _ (eat_yes k.CloseParen q us _ _ refl)
 conns_complete ts us a (ordered {us = vs} {p = p} {q = q} {all = all} list) =
     let front = front_of_exprs list in
@@ -195,8 +206,8 @@ conns_complete ts us a (by_name {us = vs} {p = p} {q = q} {all = all} list) =
     goes_mark k.OpenParen p vs _ (eat_no k.CloseParen vs _ _ front.0 (rw front.1
     (goes _ (named_conns_complete q vs us all list) (goes_mark k.CloseParen q us _ refl))))
 
-pub params_complete : (ts us : Tokens) (a : Conns) → AreParams ts a us → read.params ts ≡ Some (a, us)
-unfolding read.params
+pub params_complete : (ts us : Tokens) (a : Conns) → AreParameterValues ts a us → read.parameter_values ts ≡ Some (a, us)
+unfolding read.parameter_values
 params_complete ts us a (no_params none) = eat_no k.Hash us _ _ (not_seen k.Hash us refl none) refl
 params_complete ts us a (params {us = vs} {p = p} {all = all} tree) = eat_yes k.Hash p vs _ _ (conns_complete vs us all tree)
 

@@ -1,6 +1,6 @@
 -- What is read as a part of an item is spelled so.
-use Rattle.std.proofs.Common.{◌≡◌, ℕ, List, [], ◌∷◌, Option, Some, None, refl, sym, ◌∙◌, ap, subst, inl, inr}
-use Rattle.cov_port.specs.declared.place.Place.{Place}
+use Rattle.std.proofs.Common.{◌≡◌, ℕ, Bool, List, [], ◌∷◌, Option, Some, None, refl, sym, ◌∙◌, ap, subst, inl, inr}
+use Rattle.cov_types.specs.declared.place.Place.{Place}
 use Rattle.vlog_tokens.specs.declared.token.TokenKind.{TokenKind}
 use Rattle.vlog_tokens.specs.declared.token.TokenKind.TheVariants as k
 use Rattle.vlog_tree.specs.declared.expression.Expr.{Expr}
@@ -21,13 +21,15 @@ use Rattle.vlog_grammar.specs.Parts.{AreSeparated, IsOptional, written, absent, 
 use Rattle.vlog_grammar.specs.Expressions.{IsExpr, AreExprs, IsTarget, IsRange}
 use Rattle.vlog_grammar.specs.Expressions as grammar
 use Rattle.vlog_grammar.specs.Items as items
-use Rattle.vlog_grammar.specs.Items.{IsName, a_name, IsValue, a_value, IsWireName, IsRegName, reg_alone, IsForm, plain_form, integer_form, ranged_form, IsParamName, IsAssignPart, assign_part, IsClock, star, star_inside, rising, IsNamedConn, left_open, connected, IsConns, no_conns, ordered, AreParams, no_params, IsInstance, IsCover}
-use Rattle.vlog_laws.specs.Marks.{mark}
-use Rattle.vlog_laws.specs.Reading.{Parser, sees, after, first_place}
-use Rattle.vlog_laws.specs.ReadExpressions.{expression}
-use Rattle.vlog_laws.specs.ReadParts as parts
-use Rattle.vlog_laws.specs.ReadStatements as statements
-use Rattle.vlog_laws.specs.ReadItemParts as read
+use Rattle.vlog_grammar.specs.Items.{IsName, a_name, IsValue, a_value, IsWireName, IsRegName, reg_alone, IsForm, plain_form, integer_form, ranged_form}
+use Rattle.vlog_grammar.specs.Items.{IsParamName, IsAssignPart, assign_part, IsClock, star, star_inside, rising, IsNamedConn, left_open, connected}
+use Rattle.vlog_grammar.specs.Items.{AreConnections, no_conns, ordered, AreParameterValues, no_params, IsInstance, IsCover}
+use Rattle.vlog_reading.specs.Marks.{mark}
+use Rattle.vlog_reading.specs.Reading.{Parser, sees, after, first_place}
+use Rattle.vlog_reading.specs.ReadExpressions.{expression}
+use Rattle.vlog_reading.specs.ReadParts as parts
+use Rattle.vlog_reading.specs.ReadStatements as statements
+use Rattle.vlog_reading.specs.ReadItemParts as read
 use Rattle.vlog_laws.proofs.Basics.{both, and_then_some, if_some, bool_cases, of_mark, sees_it, after_it, after_none, expects, eats, unseen, before, onto, same}
 use Rattle.vlog_laws.proofs.Sound.{expression_sound}
 use Rattle.vlog_laws.proofs.PartsSound.{all_sound, exprs_sound, name_sound, until_sound, whole_target_sound}
@@ -58,7 +60,7 @@ word_there word ts known =
 pub name_place_sound : (ts us : Tokens) (a : NamePlace) → read.name_place ts ≡ Some (a, us) → IsName ts a us
 unfolding read.name_place
 name_place_sound ts us a h =
-    let name = and_then_some (parts.a_name ts) _ (a, us) h in
+    let name = and_then_some (parts.name_token ts) _ (a, us) h in
     let it = name_sound ts name.1 name.0 name.2 in
     let place : first_place ts ≡ it.0 = ap first_place it.1 in
     same IsName (ap (λ q. Some (record { place = q; name = name.0 }, name.1)) (sym place) ∙ name.3) (before IsName (sym it.1) a_name)
@@ -73,10 +75,21 @@ pub range_sound : (ts us : Tokens) (a : RangeExpr) → read.range ts ≡ Some (a
 unfolding read.range
 range_sound ts us a h =
     let front = expects k.OpenBracket _ ts (a, us) refl h in
-    let high = and_then_some (parts.until k.Colon front.1) _ (a, us) front.3 in
-    let low = and_then_some (parts.until k.CloseBracket high.1) _ (a, us) high.3 in
+    let high = and_then_some (parts.expression_before k.Colon front.1) _ (a, us) front.3 in
+    let low = and_then_some (parts.expression_before k.CloseBracket high.1) _ (a, us) high.3 in
     same IsRange low.3 (before IsRange (sym front.2)
     (grammar.range (until_sound k.Colon front.1 high.1 high.0 refl high.2).1 (until_sound k.CloseBracket high.1 low.1 low.0 refl low.2).1))
+
+-- a sign and a range, each where it is written
+abbrev pub IsSigned : Tokens → Bool × Option RangeExpr → Tokens → Type 0
+IsSigned ts form us = (vs : Tokens) × IsWordThere k.Signed ts form.0 vs × IsOptional k.OpenBracket IsRange vs form.1 us
+
+pub signed_range_sound : (ts us : Tokens) (form : Bool × Option RangeExpr) → read.signed_range ts ≡ Some (form, us) → IsSigned ts form us
+unfolding read.signed_range
+signed_range_sound ts us form h =
+    let bounds = and_then_some (read.optional read.range k.OpenBracket (after k.Signed ts)) _ (form, us) h in
+    let some = optional_sound IsRange read.range range_sound k.OpenBracket refl (after k.Signed ts) bounds.1 bounds.0 bounds.2 in
+    same IsSigned bounds.3 (after k.Signed ts, word_there k.Signed ts refl, some)
 
 pub wire_name_sound : (ts us : Tokens) (a : WireName) → read.wire_name ts ≡ Some (a, us) → IsWireName ts a us
 unfolding read.wire_name
@@ -144,10 +157,11 @@ clock_inside_sound p ts us a h =
     before IsClock (ap (λ x. at p k.At ∷ x) (sym front.2)) (elim (eats k.Star _ _ front.1 (a, us) refl front.3) [
       | inl stars ↦
           let shut = expects k.CloseParen _ stars.1 (a, us) refl stars.3 in
-          same IsClock shut.3 (before IsClock (ap (λ x. at p k.At ∷ at front.0 k.OpenParen ∷ x) (sym (stars.2 ∙ ap (λ x. at stars.0 k.Star ∷ x) shut.2))) star_inside)
+          same IsClock shut.3 (before IsClock (ap (λ x. at p k.At ∷ at front.0 k.OpenParen ∷ x) (sym (stars.2 ∙ ap
+          (λ x. at stars.0 k.Star ∷ x) shut.2))) star_inside)
       | inr none ↦
           let edge = expects k.PosEdge _ front.1 (a, us) refl none.1 in
-          let name = and_then_some (parts.a_name edge.1) _ (a, us) edge.3 in
+          let name = and_then_some (parts.name_token edge.1) _ (a, us) edge.3 in
           let it = name_sound edge.1 name.1 name.0 name.2 in
           let shut = expects k.CloseParen _ name.1 (a, us) refl name.3 in
           same IsClock shut.3 (before IsClock (ap (λ x. at p k.At ∷ at front.0 k.OpenParen ∷ x) (sym (edge.2 ∙ ap (λ x. at edge.0 k.PosEdge ∷ x)
@@ -167,7 +181,7 @@ pub named_conn_sound : (ts us : Tokens) (a : NamedConn) → read.named_conn ts �
 unfolding read.named_conn
 named_conn_sound ts us a h =
     let dot = expects k.Dot _ ts (a, us) refl h in
-    let name = and_then_some (parts.a_name dot.1) _ (a, us) dot.3 in
+    let name = and_then_some (parts.name_token dot.1) _ (a, us) dot.3 in
     let it = name_sound dot.1 name.1 name.0 name.2 in
     let front = expects k.OpenParen _ name.1 (a, us) refl name.3 in
     before IsNamedConn (sym (dot.2 ∙ ap (λ x. at dot.0 k.Dot ∷ x) (it.1 ∙ ap (λ x. at it.0 (k.Name name.0) ∷ x) front.2)))
@@ -175,42 +189,43 @@ named_conn_sound ts us a h =
       | inl shut ↦
           before IsNamedConn (ap (λ x. at dot.0 k.Dot ∷ at it.0 (k.Name name.0) ∷ at front.0 k.OpenParen ∷ x) (sym shut.2)) (same IsNamedConn shut.3 left_open)
       | inr none ↦
-          let inner = and_then_some (parts.until k.CloseParen front.1) _ (a, us) none.1 in
+          let inner = and_then_some (parts.expression_before k.CloseParen front.1) _ (a, us) none.1 in
           same IsNamedConn inner.3 (connected (until_sound k.CloseParen front.1 inner.1 inner.0 refl inner.2).1)
     ])
 
-pub conns_sound : (ts us : Tokens) (a : Conns) → read.conns ts ≡ Some (a, us) → IsConns ts a us
-unfolding read.conns read.by_name read.in_order
+pub conns_sound : (ts us : Tokens) (a : Conns) → read.connections ts ≡ Some (a, us) → AreConnections ts a us
+unfolding read.connections read.connections_by_name read.connections_in_order
 conns_sound ts us a h =
     let front = expects k.OpenParen _ ts (a, us) refl h in
-    before IsConns (sym front.2) (elim (eats k.CloseParen _ _ front.1 (a, us) refl front.3) [
-      | inl shut ↦ before IsConns (ap (λ x. at front.0 k.OpenParen ∷ x) (sym shut.2)) (same IsConns shut.3 no_conns)
+    before AreConnections (sym front.2) (elim (eats k.CloseParen _ _ front.1 (a, us) refl front.3) [
+      | inl shut ↦ before AreConnections (ap (λ x. at front.0 k.OpenParen ∷ x) (sym shut.2)) (same AreConnections shut.3 no_conns)
       | inr some ↦
           elim (if_some (sees k.Dot front.1) _ _ _ some.1) [
             | inl names ↦
                 let all = and_then_some (parts.separated read.named_conn front.1) _ (a, us) names.1 in
                 let shut = expects k.CloseParen _ all.1 (a, us) refl all.3 in
-                same IsConns shut.3 (items.by_name (onto (AreSeparated IsNamedConn) shut.2 (all_sound IsNamedConn read.named_conn named_conn_sound front.1 all.1 all.0 all.2)))
+                same AreConnections shut.3 (items.by_name (onto (AreSeparated IsNamedConn) shut.2
+                (all_sound IsNamedConn read.named_conn named_conn_sound front.1 all.1 all.0 all.2)))
             | inr order ↦
                 let all = and_then_some (parts.separated expression front.1) _ (a, us) order.1 in
                 let shut = expects k.CloseParen _ all.1 (a, us) refl all.3 in
-                same IsConns shut.3 (ordered (onto AreExprs shut.2 (exprs_sound front.1 all.1 all.0 all.2)))
+                same AreConnections shut.3 (ordered (onto AreExprs shut.2 (exprs_sound front.1 all.1 all.0 all.2)))
           ]
     ])
 
-pub params_sound : (ts us : Tokens) (a : Conns) → read.params ts ≡ Some (a, us) → AreParams ts a us
-unfolding read.params
+pub params_sound : (ts us : Tokens) (a : Conns) → read.parameter_values ts ≡ Some (a, us) → AreParameterValues ts a us
+unfolding read.parameter_values
 params_sound ts us a h =
     elim (eats k.Hash _ _ ts (a, us) refl h) [
-      | inl hash ↦ before AreParams (sym hash.2) (items.params (conns_sound hash.1 us a hash.3))
-      | inr none ↦ same AreParams none.1 (no_params (unseen k.Hash ts none.0))
+      | inl hash ↦ before AreParameterValues (sym hash.2) (items.params (conns_sound hash.1 us a hash.3))
+      | inr none ↦ same AreParameterValues none.1 (no_params (unseen k.Hash ts none.0))
     ]
 
 pub instance_sound : (ts us : Tokens) (a : Instance) → read.instance ts ≡ Some (a, us) → IsInstance ts a us
 unfolding read.instance
 instance_sound ts us a h =
     let name = and_then_some (read.name_place ts) _ (a, us) h in
-    let ports = and_then_some (read.conns name.1) _ (a, us) name.3 in
+    let ports = and_then_some (read.connections name.1) _ (a, us) name.3 in
     same IsInstance ports.3 (items.instance (name_place_sound ts name.1 name.0 name.2) (conns_sound name.1 ports.1 ports.0 ports.2))
 
 pub cover_sound : (label : Option NamePlace) (ts us : Tokens) (a : ItemKind) → read.cover label ts ≡ Some (a, us)
@@ -224,10 +239,10 @@ cover_sound label ts us a h =
     let sign = expects k.At _ front.1 (a, us) refl front.3 in
     let inner = expects k.OpenParen _ sign.1 (a, us) refl sign.3 in
     let edge = expects k.PosEdge _ inner.1 (a, us) refl inner.3 in
-    let clock = and_then_some (parts.a_name edge.1) _ (a, us) edge.3 in
+    let clock = and_then_some (parts.name_token edge.1) _ (a, us) edge.3 in
     let it = name_sound edge.1 clock.1 clock.0 clock.2 in
     let shut = expects k.CloseParen _ clock.1 (a, us) refl clock.3 in
-    let test = and_then_some (parts.until k.CloseParen shut.1) _ (a, us) shut.3 in
+    let test = and_then_some (parts.expression_before k.CloseParen shut.1) _ (a, us) shut.3 in
     let tree = until_sound k.CloseParen shut.1 test.1 test.0 refl test.2 in
     let end = expects k.Semicolon _ test.1 (a, us) refl test.3 in
     let ends = both (i.Cover (first_place ts) label clock.0 test.0) a end.1 us end.3 in

@@ -2,7 +2,7 @@
 use Rattle.std.proofs.Common.{◌≡◌, ℕ, ◌==◌, if◌then◌else◌, ◌⊎◌, Option, Some, None, refl, sym, ◌∙◌, ap, inl, inr}
 use Rattle.vlog_tokens.specs.declared.token.TokenKind.{TokenKind}
 use Rattle.vlog_tokens.specs.declared.token.TokenKind.TheVariants as k
-use Rattle.vlog_laws.specs.Marks.{mark}
+use Rattle.vlog_reading.specs.Marks.{mark}
 
 abbrev pub of_mark : ℕ → Option TokenKind
 of_mark n =

@@ -1,6 +1,6 @@
 -- What is spelled as a module or a file is read so.
 use Rattle.std.proofs.Common.{◌≡◌, ℕ, zero, suc, ◌+◌, ◌<◌, ◌≤◌, false, List, [], ◌∷◌, ◌++◌, length, Option, Some, None, refl, sym, ◌∙◌, ap, arith, append_assoc}
-use Rattle.cov_port.specs.declared.place.Place.{Place}
+use Rattle.cov_types.specs.declared.place.Place.{Place}
 use Rattle.vlog_tokens.specs.declared.token_list.TokenList.{TokenList}
 use Rattle.vlog_tokens.specs.declared.token.TokenKind.TheVariants as k
 use Rattle.vlog_tree.specs.declared.item.ParamForm.{ParamForm}
@@ -15,15 +15,17 @@ use Rattle.vlog_grammar.specs.Tokens.{Tokens, at}
 use Rattle.vlog_grammar.specs.Expressions.{IsRange}
 use Rattle.vlog_grammar.specs.Items.{IsParamName, param_name, a_name}
 use Rattle.vlog_grammar.specs.Modules as grammar
-use Rattle.vlog_grammar.specs.Modules.{IsGroup, declared, lone, AreGroups, last_group, more_groups, IsHeader, no_header, header, IsDirection, input, output_reg, output_wire, IsPort, declared_port, lone_port, ArePorts, last_port, more_ports, IsPortList, no_list, empty_list, IsModule, a_module, AreModules, no_modules, more_modules, SpellsFile}
-use Rattle.vlog_laws.specs.Reading.{sees, first_kind}
-use Rattle.vlog_laws.specs.ReadItemParts as item_parts
-use Rattle.vlog_laws.specs.ReadModules as read
+use Rattle.vlog_grammar.specs.Modules.{IsSetting, declared, lone, AreSettings, last_setting, more_settings, IsHeader, no_header, header, IsDirection, input}
+use Rattle.vlog_grammar.specs.Modules.{output_reg, output_wire, IsPort, declared_port, lone_port, ArePorts, last_port, more_ports, IsPortList, no_list}
+use Rattle.vlog_grammar.specs.Modules.{empty_list, IsModule, a_module, AreModules, no_modules, more_modules, SpellsFile}
+use Rattle.vlog_reading.specs.Reading.{sees, first_kind}
+use Rattle.vlog_reading.specs.ReadItemParts as item_parts
+use Rattle.vlog_reading.specs.ReadModules as read
 use Rattle.vlog_laws.proofs.Basics.{Ends, ends_at, not_seen, sees_other, goes, goes_mark, eat_yes, eat_no, same_Some}
 use Rattle.vlog_laws.proofs.ShorterModules.{shorter_group, shorter_groups, shorter_port, shorter_ports, shorter_module}
 use Rattle.vlog_laws.proofs.StatementsSound.{append_nil}
 use Rattle.vlog_laws.proofs.PartsComplete.{name_complete}
-use Rattle.vlog_laws.proofs.ItemPartsComplete.{optional_complete, word_complete, range_complete, param_form_complete, param_name_complete}
+use Rattle.vlog_laws.proofs.ItemPartsComplete.{word_complete, signed_range_complete, param_form_complete, param_name_complete}
 use Rattle.vlog_laws.proofs.ItemsComplete.{whole_items_complete}
 
 -- a name stands in front, and no `parameter`
@@ -31,30 +33,30 @@ front_name : {ts us : Tokens} {name : ParamName} → IsParamName ts name us → 
 unfolding sees
 front_name (param_name a_name constant) = refl
 
-group_complete : (given : Option ParamForm) (ts us : Tokens) (a : Item) (form : ParamForm) → IsGroup given ts a form us → Ends us
-    → read.group given ts ≡ Some ((a, form), us)
-unfolding read.group
+group_complete : (given : Option ParamForm) (ts us : Tokens) (a : Item) (form : ParamForm) → IsSetting given ts a form us → Ends us
+    → read.setting given ts ≡ Some ((a, form), us)
+unfolding read.setting read.setting_form read.setting_of
 group_complete given ts us a form (declared {us = xs} {vs = vs} {p = p} {name = name} shape one) ends =
-    goes _ (eat_yes k.Parameter p xs item_parts.param_form (read.kept given) (param_form_complete xs vs form shape))
+    goes _ (eat_yes k.Parameter p xs item_parts.param_form (read.from_before given) (param_form_complete xs vs form shape))
     (goes _ (param_name_complete vs us name one ends) refl)
 group_complete given ts us a form (lone {us = xs} {t = t} {name = name} one) ends =
-    goes _ (eat_no k.Parameter (t ∷ xs) item_parts.param_form (read.kept (Some form)) (front_name one) refl)
+    goes _ (eat_no k.Parameter (t ∷ xs) item_parts.param_form (read.from_before (Some form)) (front_name one) refl)
     (goes _ (param_name_complete (t ∷ xs) us name one ends) refl)
 
 -- a parameter is read before a comma, and before what stands after the whole list
-groups_complete : (t : ℕ) (given : Option ParamForm) (found all : List Item) (ts us : Tokens) → AreGroups given ts all us → Ends us → sees k.Comma us ≡ false
-    → length ts ≤ t → read.groups_from t given found ts ≡ Some (found ++ all, us)
-unfolding read.groups_from
+groups_complete : (t : ℕ) (given : Option ParamForm) (found all : List Item) (ts us : Tokens) → AreSettings given ts all us → Ends us → sees k.Comma us ≡ false
+    → length ts ≤ t → read.settings_from t given found ts ≡ Some (found ++ all, us)
+unfolding read.settings_from
 groups_complete zero given found all ts us list ends none turns = absurd (omega (arith, shorter_groups list))
-groups_complete (suc t) given found all ts us (last_group {a = a} {form = form} one) ends none turns =
+groups_complete (suc t) given found all ts us (last_setting {a = a} {form = form} one) ends none turns =
     goes _ (group_complete given ts us a form one ends) (eat_no k.Comma us _ _ none refl)
-groups_complete (suc t) given found all ts us (more_groups {us = vs} {p = p} {a = a} {form = form} {all = others} one rest) ends none turns =
+groups_complete (suc t) given found all ts us (more_settings {us = vs} {p = p} {a = a} {form = form} {all = others} one rest) ends none turns =
     goes _ (group_complete given ts (at p k.Comma ∷ vs) a form one (ends_at k.Comma p vs refl refl)) (eat_yes k.Comma p vs _ _
     (groups_complete t (Some form) (found ++ a ∷ []) others vs us rest ends none (omega (arith, shorter_group one))
     ∙ ap (λ x. Some (x, us)) (append_assoc found (a ∷ []) others)))
 
 header_complete : (ts us : Tokens) (all : List Item) → IsHeader ts all us → read.header ts ≡ Some (all, us)
-unfolding read.header read.header_inside read.groups
+unfolding read.header read.header_inside read.settings
 header_complete ts us all (no_header none) = eat_no k.Hash us _ _ (not_seen k.Hash us refl none) refl
 header_complete ts us all (header {us = vs} {p = p} {q = q} {r = r} list) =
     eat_yes k.Hash p (at q k.OpenParen ∷ vs) _ _ (goes_mark k.OpenParen q vs _
@@ -63,7 +65,7 @@ header_complete ts us all (header {us = vs} {p = p} {q = q} {r = r} list) =
     (goes_mark k.CloseParen r us _ refl)))
 
 direction_complete : (ts us : Tokens) (a : PortKind) → IsDirection ts a us → read.direction ts ≡ Some (a, us)
-unfolding read.direction read.output
+unfolding read.direction read.output_kind
 direction_complete ts us a (input {us = vs} {written = written} word) =
     ap (λ x. Some (port.Input, x)) (word_complete k.Wire vs us written refl word).1
 direction_complete ts us a (output_reg {q = q}) = eat_yes k.Reg q us _ _ refl
@@ -79,11 +81,10 @@ front_direction given p (output_wire none word) = refl
 
 port_complete : (given : Option Port) (ts us : Tokens) (a : Port) → IsPort given ts a us → read.one_port given ts ≡ Some (a, us)
 unfolding read.one_port read.declared_port read.lone_port
-port_complete given ts us a (declared_port {us = xs} {vs = vs} {ws = ws} {t = t} {q = q} {kind = kind} {signed = signed} {range = range} {name = name} one word bounds) =
-    let w = word_complete k.Signed vs ws signed refl word in
+port_complete given ts us a
+    (declared_port {us = xs} {vs = vs} {ws = ws} {t = t} {q = q} {kind = kind} {signed = signed} {range = range} {name = name} one word bounds) =
     front_direction given t.place one ∙ goes _ (direction_complete (t ∷ xs) vs kind one)
-    (rw (w.0, w.1) (goes _ (optional_complete IsRange item_parts.range k.OpenBracket refl (at q (k.Name name) ∷ us)
-    (λ ts a tree. range_complete ts (at q (k.Name name) ∷ us) a tree) ws range bounds) (goes _ (name_complete q name us) refl)))
+    (goes _ (signed_range_complete vs ws (at q (k.Name name) ∷ us) signed range word bounds) (goes _ (name_complete q name us) refl))
 port_complete given ts us a (lone_port {p = p} {name = name}) = goes _ (name_complete p name us) refl
 
 ports_complete : (t : ℕ) (given : Option Port) (found all : List Port) (ts us : Tokens) → ArePorts given ts all us → sees k.Comma us ≡ false
@@ -120,7 +121,8 @@ port_list_complete ts us all (grammar.ports {us = vs} {p = p} {q = q} list) =
 
 module_complete : (ts us : Tokens) (a : Module) → IsModule ts a us → read.one_module ts ≡ Some (a, us)
 unfolding read.one_module
-module_complete ts us a (a_module {us = xs} {vs = vs} {ws = ws} {p = p} {q = q} {r = r} {o = o} {name = name} {params = params} {items = items} {ports = ports} one two three) =
+module_complete ts us a
+    (a_module {us = xs} {vs = vs} {ws = ws} {p = p} {q = q} {r = r} {o = o} {name = name} {params = params} {items = items} {ports = ports} one two three) =
     goes_mark k.Module p (at q (k.Name name) ∷ xs) _ (goes _ (name_complete q name xs) (goes _ (header_complete xs vs params one)
     (goes _ (port_list_complete vs (at r k.Semicolon ∷ ws) ports two) (goes_mark k.Semicolon r ws _
     (goes _ (whole_items_complete k.EndModule o ws us items refl three) (goes_mark k.EndModule o us _ refl))))))
@@ -129,7 +131,8 @@ module_complete ts us a (a_module {us = xs} {vs = vs} {ws = ws} {p = p} {q = q} 
 not_the_end : {ts us : Tokens} {a : Module} → IsModule ts a us → read.is_end ts ≡ false
 not_the_end (a_module params list items) = refl
 
-modules_from_complete : (t : ℕ) (found all : List Module) (ts : Tokens) → AreModules ts all → length ts < t → read.modules_from t found ts ≡ Some (found ++ all, [])
+modules_from_complete : (t : ℕ) (found all : List Module) (ts : Tokens) → AreModules ts all → length ts < t
+    → read.modules_from t found ts ≡ Some (found ++ all, [])
 unfolding read.modules_from
 modules_from_complete zero found all ts list turns = absurd (omega (arith, turns))
 modules_from_complete (suc t) found all ts no_modules turns = ap (λ x. Some (x, [])) (sym (append_nil found))

@@ -1,19 +1,20 @@
 -- A list, a name, a target or the head of a loop that is spelled is read so.
 use Rattle.std.proofs.Common.{◌≡◌, ℕ, zero, suc, ◌<◌, ◌≤◌, false, ◌==◌, List, [], ◌∷◌, ◌++◌, length, Some, None, refl, ◌∙◌, ap, arith, append_assoc}
-use Rattle.cov_port.specs.declared.place.Place.{Place}
+use Rattle.cov_types.specs.declared.place.Place.{Place}
 use Rattle.vlog_tokens.specs.declared.token.TokenKind.{TokenKind}
 use Rattle.vlog_tokens.specs.declared.token.TokenKind.TheVariants as k
 use Rattle.vlog_tree.specs.declared.expression.Expr.{Expr}
 use Rattle.vlog_grammar.specs.Tokens.{Tokens, at, infix_of}
 use Rattle.vlog_grammar.specs.Parts.{AreSeparated, last, more}
-use Rattle.vlog_grammar.specs.Expressions.{IsExpr, AreExprs, IsPart, name, position, slice, twice, IsTarget, target_part, target_join, AreTargets, last_target, more_targets}
+use Rattle.vlog_grammar.specs.Expressions.{IsExpr, AreExprs, IsPart, name, position, slice, twice, IsTarget, target_part, target_join, AreTargets}
+use Rattle.vlog_grammar.specs.Expressions.{last_target, more_targets}
 use Rattle.vlog_grammar.specs.Expressions as grammar
 use Rattle.vlog_grammar.specs.Statements.{IsForHead, for_head}
-use Rattle.vlog_laws.specs.Marks.{mark}
-use Rattle.vlog_laws.specs.Reading.{Parser, sees}
-use Rattle.vlog_laws.specs.ReadExpressions.{expr, expression}
-use Rattle.vlog_laws.specs.ReadParts as parts
-use Rattle.vlog_laws.specs.ReadStatements as read
+use Rattle.vlog_reading.specs.Marks.{mark}
+use Rattle.vlog_reading.specs.Reading.{Parser, sees}
+use Rattle.vlog_reading.specs.ReadExpressions.{expr, expression}
+use Rattle.vlog_reading.specs.ReadParts as parts
+use Rattle.vlog_reading.specs.ReadStatements as read
 use Rattle.vlog_laws.proofs.Basics.{Ends, ends_at, sees_other, goes, goes_mark, eat_yes, eat_no}
 use Rattle.vlog_laws.proofs.Shorter.{shorter_expr}
 use Rattle.vlog_laws.proofs.ShorterStatements.{shorter_target, shorter_targets}
@@ -50,23 +51,32 @@ as_separated : {ts us : Tokens} {all : List Expr} → AreExprs ts all us → Are
 as_separated (grammar.last one) = last one
 as_separated (grammar.more one rest) = more one (as_separated rest)
 
-pub exprs_complete : (ts us : Tokens) (all : List Expr) → AreExprs ts all us → Ends us → sees k.Comma us ≡ false → parts.separated expression ts ≡ Some (all, us)
+pub exprs_complete : (ts us : Tokens) (all : List Expr) → AreExprs ts all us → Ends us → sees k.Comma us ≡ false
+    → parts.separated expression ts ≡ Some (all, us)
 exprs_complete ts us all list ends none =
     all_complete IsExpr expression us none (λ ts a one. expression_complete ts us a one ends)
-    (λ ts vs p a one. expression_complete ts (at p k.Comma ∷ vs) a one (ends_at k.Comma p vs refl refl)) (λ ts vs a one. shorter_expr one) all ts (as_separated list)
+    (λ ts vs p a one. expression_complete ts (at p k.Comma ∷ vs) a one (ends_at k.Comma p vs refl refl)) (λ ts vs a one. shorter_expr one) all ts
+    (as_separated list)
 
-pub name_complete : (p : Place) (s : List ℕ) (us : Tokens) → parts.a_name (at p (k.Name s) ∷ us) ≡ Some (s, us)
-unfolding parts.a_name
+pub name_complete : (p : Place) (s : List ℕ) (us : Tokens) → parts.name_token (at p (k.Name s) ∷ us) ≡ Some (s, us)
+unfolding parts.name_token
 name_complete p s us = refl
 
 pub until_complete : (close : TokenKind) (p : Place) (ts us : Tokens) (a : Expr) → infix_of close ≡ None → (mark close == mark k.Question) ≡ false
-    → IsExpr ts a (at p close ∷ us) → parts.until close ts ≡ Some (a, us)
-unfolding parts.until
+    → IsExpr ts a (at p close ∷ us) → parts.expression_before close ts ≡ Some (a, us)
+unfolding parts.expression_before
 until_complete close p ts us a none other tree =
     goes _ (expression_complete ts (at p close ∷ us) a tree (ends_at close p us none other)) (goes_mark close p us _ refl)
 
-pub test_complete : (q r : Place) (ts us : Tokens) (a : Expr) → IsExpr ts a (at r k.CloseParen ∷ us) → parts.test (at q k.OpenParen ∷ ts) ≡ Some (a, us)
-unfolding parts.test
+bound_name_complete : (close : TokenKind) (p q r : Place) (s : List ℕ) (a : Expr) (ts us : Tokens) → infix_of close ≡ None
+    → (mark close == mark k.Question) ≡ false
+    → IsExpr ts a (at r close ∷ us) → parts.bound_name close (at p (k.Name s) ∷ at q k.EqualSign ∷ ts) ≡ Some ((s, a), us)
+unfolding parts.bound_name
+bound_name_complete close p q r s a ts us none other tree =
+    goes _ (name_complete p s (at q k.EqualSign ∷ ts)) (goes_mark k.EqualSign q ts _ (goes _ (until_complete close r ts us a none other tree) refl))
+
+pub test_complete : (q r : Place) (ts us : Tokens) (a : Expr) → IsExpr ts a (at r k.CloseParen ∷ us) → parts.condition (at q k.OpenParen ∷ ts) ≡ Some (a, us)
+unfolding parts.condition
 test_complete q r ts us a tree = goes_mark k.OpenParen q ts _ (until_complete k.CloseParen r ts us a refl refl tree)
 
 part_of_complete : (p : Place) (s : List ℕ) (ts us : Tokens) (a : Expr) → IsPart (at p (k.Name s) ∷ ts) a us → parts.part_of s ts ≡ Some (a, us)
@@ -89,9 +99,12 @@ module _ (target : Parser Expr) (d : ℕ) (whole : (ts us : Tokens) (a : Expr) �
   target_layer_complete : (ts us : Tokens) (a : Expr) → length ts ≤ suc d → IsTarget ts a us → read.target_layer target ts ≡ Some (a, us)
   unfolding read.target_layer read.targets
   target_layer_complete ts us a deep (target_part (name {p = p} {s = s} none)) = part_of_complete p s us us a (name none)
-  target_layer_complete ts us a deep (target_part (position {us = vs} {p = p} {q = q} {s = s} one none)) = part_of_complete p s (at q k.OpenBracket ∷ vs) us a (position one none)
-  target_layer_complete ts us a deep (target_part (slice {us = vs} {p = p} {q = q} {s = s} tree)) = part_of_complete p s (at q k.OpenBracket ∷ vs) us a (slice tree)
-  target_layer_complete ts us a deep (target_part (twice {us = vs} {p = p} {q = q} {s = s} one tree)) = part_of_complete p s (at q k.OpenBracket ∷ vs) us a (twice one tree)
+  target_layer_complete ts us a deep (target_part (position {us = vs} {p = p} {q = q} {s = s} one none)) = part_of_complete p s (at q k.OpenBracket ∷ vs) us a
+      (position one none)
+  target_layer_complete ts us a deep (target_part (slice {us = vs} {p = p} {q = q} {s = s} tree)) = part_of_complete p s (at q k.OpenBracket ∷ vs) us a
+      (slice tree)
+  target_layer_complete ts us a deep (target_part (twice {us = vs} {p = p} {q = q} {s = s} one tree)) = part_of_complete p s (at q k.OpenBracket ∷ vs) us a
+      (twice one tree)
   target_layer_complete ts us a deep (target_join {us = vs} {q = q} {all = all} list) =
       goes _ (targets_complete (length vs) [] all vs (at q k.CloseBrace ∷ us) list (sees_other k.Comma k.CloseBrace q us refl) (omega arith) (omega arith))
       (goes_mark k.CloseBrace q us _ refl)
@@ -110,8 +123,6 @@ pub for_head_complete : (ts us : Tokens) (name step_name : List ℕ) (from test 
 unfolding read.for_head
 for_head_complete ts us called step_name from test step
     (for_head {us = vs} {vs = ws} {ws = xs} {p1 = p1} {p2 = p2} {p3 = p3} {p4 = p4} {p5 = p5} {p6 = p6} {p7 = p7} {p8 = p8} one two three) =
-    goes_mark k.OpenParen p1 _ _ (goes _ (name_complete p2 called (at p3 k.EqualSign ∷ vs)) (goes_mark k.EqualSign p3 vs _
-    (goes _ (until_complete k.Semicolon p4 vs ws from refl refl one)
+    goes_mark k.OpenParen p1 _ _ (goes _ (bound_name_complete k.Semicolon p2 p3 p4 called from vs ws refl refl one)
     (goes _ (until_complete k.Semicolon p5 ws (at p6 (k.Name step_name) ∷ at p7 k.EqualSign ∷ xs) test refl refl two)
-    (goes _ (name_complete p6 step_name (at p7 k.EqualSign ∷ xs)) (goes_mark k.EqualSign p7 xs _
-    (goes _ (until_complete k.CloseParen p8 xs us step refl refl three) refl)))))))
+    (goes _ (bound_name_complete k.CloseParen p6 p7 p8 step_name step xs us refl refl three) refl)))

@@ -1,6 +1,6 @@
 -- What is read as a list, a name, a target or the head of a loop is spelled so.
 use Rattle.std.proofs.Common.{◌≡◌, ℕ, zero, suc, List, [], ◌∷◌, ◌++◌, length, Some, refl, sym, ◌∙◌, ap, subst, inl, inr, append_assoc}
-use Rattle.cov_port.specs.declared.place.Place.{Place}
+use Rattle.cov_types.specs.declared.place.Place.{Place}
 use Rattle.vlog_tokens.specs.declared.token.TokenKind.{TokenKind}
 use Rattle.vlog_tokens.specs.declared.token.TokenKind.TheVariants as k
 use Rattle.vlog_tree.specs.declared.expression.Expr.{Expr}
@@ -9,12 +9,12 @@ use Rattle.vlog_grammar.specs.Parts.{AreSeparated, last, more}
 use Rattle.vlog_grammar.specs.Expressions.{IsExpr, AreExprs, IsPart, IsTarget, target_part, target_join, AreTargets, last_target, more_targets}
 use Rattle.vlog_grammar.specs.Expressions as grammar
 use Rattle.vlog_grammar.specs.Statements.{IsForHead, for_head}
-use Rattle.vlog_laws.specs.declared.for_head.ForHead.{ForHead}
-use Rattle.vlog_laws.specs.Marks.{mark}
-use Rattle.vlog_laws.specs.Reading.{Parser}
-use Rattle.vlog_laws.specs.ReadExpressions.{expr, expression}
-use Rattle.vlog_laws.specs.ReadParts as parts
-use Rattle.vlog_laws.specs.ReadStatements as read
+use Rattle.vlog_reading.specs.declared.for_head.ForHead.{ForHead}
+use Rattle.vlog_reading.specs.Marks.{mark}
+use Rattle.vlog_reading.specs.Reading.{Parser}
+use Rattle.vlog_reading.specs.ReadExpressions.{expr, expression}
+use Rattle.vlog_reading.specs.ReadParts as parts
+use Rattle.vlog_reading.specs.ReadStatements as read
 use Rattle.vlog_laws.proofs.Basics.{nothing, both, and_then_some, of_mark, expects, eats, onto, same}
 use Rattle.vlog_laws.proofs.Sound.{expr_sound, expression_sound, named_sound}
 
@@ -51,30 +51,46 @@ as_exprs (more one rest) = grammar.more one (as_exprs rest)
 pub exprs_sound : (ts us : Tokens) (all : List Expr) → parts.separated expression ts ≡ Some (all, us) → AreExprs ts all us
 exprs_sound ts us all h = as_exprs (all_sound IsExpr expression expression_sound ts us all h)
 
-name_front : (kind : TokenKind) (p : Place) (ts us : Tokens) (s : List ℕ) → parts.a_name_by (Some kind) (at p kind ∷ ts) ≡ Some (s, us)
+name_front : (kind : TokenKind) (p : Place) (ts us : Tokens) (s : List ℕ) → parts.name_token_by (Some kind) (at p kind ∷ ts) ≡ Some (s, us)
     → at p kind ∷ ts ≡ at p (k.Name s) ∷ us
 name_front (k.Name n) p ts us s h =
     let ends = both n s ts us h in
     ap (λ x. at p (k.Name x) ∷ ts) ends.0 ∙ ap (λ x. at p (k.Name s) ∷ x) ends.1
 name_front _ p ts us s h = nothing (s, us) h
 
-pub name_sound : (ts us : Tokens) (s : List ℕ) → parts.a_name ts ≡ Some (s, us) → (p : Place) × (ts ≡ at p (k.Name s) ∷ us)
-unfolding parts.a_name
+pub name_sound : (ts us : Tokens) (s : List ℕ) → parts.name_token ts ≡ Some (s, us) → (p : Place) × (ts ≡ at p (k.Name s) ∷ us)
+unfolding parts.name_token
 name_sound [] us s h = nothing (s, us) h
 name_sound (t ∷ ts) us s h = (t.place, name_front t.what t.place ts us s h)
 
-pub until_sound : (close : TokenKind) (ts us : Tokens) (a : Expr) → of_mark (mark close) ≡ Some close → parts.until close ts ≡ Some (a, us)
+pub until_sound : (close : TokenKind) (ts us : Tokens) (a : Expr) → of_mark (mark close) ≡ Some close → parts.expression_before close ts ≡ Some (a, us)
     → (p : Place) × IsExpr ts a (at p close ∷ us)
-unfolding parts.until
+unfolding parts.expression_before
 until_sound close ts us a known h =
     let first = and_then_some (expression ts) _ (a, us) h in
     let shut = expects close _ first.1 (a, us) known first.3 in
     (shut.0, same (λ x y z. IsExpr x y (at shut.0 close ∷ z)) shut.3 (onto IsExpr shut.2 (expression_sound ts first.1 first.0 first.2)))
 
+-- a name, `=`, an expression and the mark after it
+abbrev pub IsBound : TokenKind → Tokens → List ℕ × Expr → Tokens → Type 0
+IsBound close ts b us =
+    (p : Place) × (q : Place) × (r : Place) × (vs : Tokens) × (ts ≡ at p (k.Name b.0) ∷ at q k.EqualSign ∷ vs) × IsExpr vs b.1 (at r close ∷ us)
+
+pub bound_name_sound : (close : TokenKind) (ts us : Tokens) (b : List ℕ × Expr) → of_mark (mark close) ≡ Some close → parts.bound_name close ts ≡ Some (b, us)
+    → IsBound close ts b us
+unfolding parts.bound_name
+bound_name_sound close ts us b known h =
+    let name = and_then_some (parts.name_token ts) _ (b, us) h in
+    let it = name_sound ts name.1 name.0 name.2 in
+    let equal = expects k.EqualSign _ name.1 (b, us) refl name.3 in
+    let value = and_then_some (parts.expression_before close equal.1) _ (b, us) equal.3 in
+    let one = until_sound close equal.1 value.1 value.0 known value.2 in
+    same (IsBound close) value.3 (it.0, equal.0, one.0, equal.1, it.1 ∙ ap (λ x. at it.0 (k.Name name.0) ∷ x) equal.2, one.1)
+
 -- an expression in parentheses
-pub test_sound : (ts us : Tokens) (a : Expr) → parts.test ts ≡ Some (a, us)
+pub test_sound : (ts us : Tokens) (a : Expr) → parts.condition ts ≡ Some (a, us)
     → (p q : Place) × (inside : Tokens) × (ts ≡ at p k.OpenParen ∷ inside) × IsExpr inside a (at q k.CloseParen ∷ us)
-unfolding parts.test
+unfolding parts.condition
 test_sound ts us a h =
     let front = expects k.OpenParen _ ts (a, us) refl h in
     let inner = until_sound k.CloseParen front.1 us a refl front.3 in
@@ -136,24 +152,16 @@ pub for_head_sound : (ts us : Tokens) (h : ForHead) → read.for_head ts ≡ Som
 unfolding read.for_head
 for_head_sound ts us head h =
     let front = expects k.OpenParen _ ts (head, us) refl h in
-    let name = and_then_some (parts.a_name front.1) _ (head, us) front.3 in
-    let it = name_sound front.1 name.1 name.0 name.2 in
-    let equal = expects k.EqualSign _ name.1 (head, us) refl name.3 in
-    let from = and_then_some (parts.until k.Semicolon equal.1) _ (head, us) equal.3 in
-    let one = until_sound k.Semicolon equal.1 from.1 from.0 refl from.2 in
-    let goal = and_then_some (parts.until k.Semicolon from.1) _ (head, us) from.3 in
-    let two = until_sound k.Semicolon from.1 goal.1 goal.0 refl goal.2 in
-    let step_name = and_then_some (parts.a_name goal.1) _ (head, us) goal.3 in
-    let that = name_sound goal.1 step_name.1 step_name.0 step_name.2 in
-    let again = expects k.EqualSign _ step_name.1 (head, us) refl step_name.3 in
-    let step = and_then_some (parts.until k.CloseParen again.1) _ (head, us) again.3 in
-    let three = until_sound k.CloseParen again.1 step.1 step.0 refl step.2 in
-    let begin : ts ≡ at front.0 k.OpenParen ∷ at it.0 (k.Name name.0) ∷ at equal.0 k.EqualSign ∷ equal.1 =
-    front.2 ∙ ap (λ x. at front.0 k.OpenParen ∷ x) (it.1 ∙ ap (λ x. at it.0 (k.Name name.0) ∷ x) equal.2) in
-    let middle : goal.1 ≡ at that.0 (k.Name step_name.0) ∷ at again.0 k.EqualSign ∷ again.1 =
-    that.1 ∙ ap (λ x. at that.0 (k.Name step_name.0) ∷ x) again.2 in
-    let test : IsExpr from.1 goal.0 (at two.0 k.Semicolon ∷ at that.0 (k.Name step_name.0) ∷ at again.0 k.EqualSign ∷ again.1) =
-    subst (λ x. IsExpr from.1 goal.0 (at two.0 k.Semicolon ∷ x)) middle two.1 in
-    let found : IsForHead ts name.0 from.0 goal.0 step_name.0 step.0 step.1 =
-    subst (λ x. IsForHead x name.0 from.0 goal.0 step_name.0 step.0 step.1) (sym begin) (for_head one.1 test three.1) in
+    let start = and_then_some (parts.bound_name k.Semicolon front.1) _ (head, us) front.3 in
+    let one = bound_name_sound k.Semicolon front.1 start.1 start.0 refl start.2 in
+    let goal = and_then_some (parts.expression_before k.Semicolon start.1) _ (head, us) start.3 in
+    let two = until_sound k.Semicolon start.1 goal.1 goal.0 refl goal.2 in
+    let step = and_then_some (parts.bound_name k.CloseParen goal.1) _ (head, us) goal.3 in
+    let three = bound_name_sound k.CloseParen goal.1 step.1 step.0 refl step.2 in
+    let begin : ts ≡ at front.0 k.OpenParen ∷ at one.0 (k.Name start.0.0) ∷ at one.1 k.EqualSign ∷ one.3 =
+    front.2 ∙ ap (λ x. at front.0 k.OpenParen ∷ x) one.4 in
+    let test : IsExpr start.1 goal.0 (at two.0 k.Semicolon ∷ at three.0 (k.Name step.0.0) ∷ at three.1 k.EqualSign ∷ three.3) =
+    subst (λ x. IsExpr start.1 goal.0 (at two.0 k.Semicolon ∷ x)) three.4 two.1 in
+    let found : IsForHead ts start.0.0 start.0.1 goal.0 step.0.0 step.0.1 step.1 =
+    subst (λ x. IsForHead x start.0.0 start.0.1 goal.0 step.0.0 step.0.1 step.1) (sym begin) (for_head one.5 test three.5) in
     same (λ x y z. IsForHead x y.name y.from y.test y.step_name y.step z) step.3 found

@@ -1,25 +1,27 @@
 -- What is read as an item that holds no items is spelled so.
 use Rattle.std.proofs.Common.{◌≡◌, ℕ, Bool, true, false, List, ◌∷◌, Some, None, refl, sym, ◌∙◌, ap, subst, inl, inr}
-use Rattle.cov_port.specs.declared.place.Place.{Place}
+use Rattle.cov_types.specs.declared.place.Place.{Place}
 use Rattle.vlog_tokens.specs.declared.token.TokenKind.TheVariants as k
 use Rattle.vlog_tree.specs.declared.expression.Expr.{Expr}
 use Rattle.vlog_tree.specs.declared.item.NamePlace.{NamePlace}
 use Rattle.vlog_tree.specs.declared.item.ItemKind.{ItemKind}
 use Rattle.vlog_tree.specs.declared.item.ItemKind.TheVariants as i
+use Rattle.vlog_tree.specs.Trees.{item}
 use Rattle.vlog_grammar.specs.Tokens.{Tokens, at}
 use Rattle.vlog_grammar.specs.Parts.{AreSeparated}
-use Rattle.vlog_grammar.specs.Expressions.{IsRange}
 use Rattle.vlog_grammar.specs.Items as items
-use Rattle.vlog_grammar.specs.Items.{item, IsName, IsWireName, IsRegName, IsForm, IsParamName, IsAssignPart, IsInstance, IsCover, cover, IsPlainItem, wire, reg, integer, genvar, parameter, localparam, assign, cover_alone, cover_labelled}
-use Rattle.vlog_laws.specs.Reading.{Parser, and_then, ◌>>=◌, ◌>>◌, pure, sees, after, expect, first_place}
-use Rattle.vlog_laws.specs.ReadParts as parts
-use Rattle.vlog_laws.specs.ReadStatements as statements
-use Rattle.vlog_laws.specs.ReadItemParts as part
-use Rattle.vlog_laws.specs.ReadItems as read
+use Rattle.vlog_grammar.specs.Items.{IsName, IsWireName, IsRegName, IsForm, IsParamName, IsAssignPart, IsInstance, IsCover, cover, IsPlainItem, wire, reg}
+use Rattle.vlog_grammar.specs.Items.{integer, genvar, parameter, localparam, assign, cover_alone, cover_labelled}
+use Rattle.vlog_reading.specs.Reading.{Parser, and_then, ◌>>=◌, pure, first_place}
+use Rattle.vlog_reading.specs.ReadParts as parts
+use Rattle.vlog_reading.specs.ReadStatements as statements
+use Rattle.vlog_reading.specs.ReadItemParts as part
+use Rattle.vlog_reading.specs.ReadItems as read
 use Rattle.vlog_laws.proofs.Basics.{both, and_then_some, expects, eats, before, onto, same}
 use Rattle.vlog_laws.proofs.PartsSound.{all_sound}
 use Rattle.vlog_laws.proofs.StatementsSound.{whole_statement_sound}
-use Rattle.vlog_laws.proofs.ItemPartsSound.{optional_sound, word_there, name_place_sound, range_sound, wire_name_sound, reg_name_sound, param_form_sound, param_name_sound, assign_part_sound, clock_sound, params_sound, instance_sound, cover_sound}
+use Rattle.vlog_laws.proofs.ItemPartsSound.{name_place_sound, signed_range_sound, wire_name_sound, reg_name_sound, param_form_sound, param_name_sound}
+use Rattle.vlog_laws.proofs.ItemPartsSound.{assign_part_sound, clock_sound, params_sound, instance_sound, cover_sound}
 
 -- an item at a place, where it is of this kind
 abbrev pub PlainAt : Bool → Place → Tokens → ItemKind → Tokens → Type 0
@@ -27,57 +29,49 @@ PlainAt inside p ts what us = IsPlainItem inside ts (item p what) us
 
 -- a list, and the semicolon after it
 list_sound : {A : Type 0} (R : Tokens → A → Tokens → Type 0) (one : Parser A) → ((ts us : Tokens) (a : A) → one ts ≡ Some (a, us) → R ts a us)
-    → (make : List A → ItemKind) (ts us : Tokens) (a : ItemKind)
-    → and_then (parts.separated one ts) (λ all. expect k.Semicolon >> pure (make all)) ≡ Some (a, us)
+    → (make : List A → ItemKind) (ts us : Tokens) (a : ItemKind) → and_then (parts.listed one ts) (λ all. pure (make all)) ≡ Some (a, us)
     → (all : List A) × (q : Place) × AreSeparated R ts all (at q k.Semicolon ∷ us) × (make all ≡ a)
+unfolding parts.listed
 list_sound R one each make ts us a h =
-    let all = and_then_some (parts.separated one ts) _ (a, us) h in
-    let end = expects k.Semicolon _ all.1 (a, us) refl all.3 in
-    let ends = both (make all.0) a end.1 us end.3 in
-    (all.0, end.0, onto (AreSeparated R) (end.2 ∙ ap (λ x. at end.0 k.Semicolon ∷ x) ends.1) (all_sound R one each ts all.1 all.0 all.2), ends.0)
+    let list = and_then_some (parts.listed one ts) _ (a, us) h in
+    let all = and_then_some (parts.separated one ts) _ (list.0, list.1) list.2 in
+    let end = expects k.Semicolon _ all.1 (list.0, list.1) refl all.3 in
+    let found = both all.0 list.0 end.1 list.1 end.3 in
+    let ends = both (make list.0) a list.1 us list.3 in (
+      all.0,
+      end.0,
+      onto (AreSeparated R) (end.2 ∙ ap (λ x. at end.0 k.Semicolon ∷ x) (found.1 ∙ ends.1)) (all_sound R one each ts all.1 all.0 all.2),
+      ap make found.0 ∙ ends.0,
+    )
 
 pub wires_sound : (inside : Bool) (p : Place) (ts us : Tokens) (a : ItemKind) → read.wires ts ≡ Some (a, us) → PlainAt inside p (at p k.Wire ∷ ts) a us
 unfolding read.wires
 wires_sound inside p ts us a h =
-    let bounds = and_then_some (part.optional part.range k.OpenBracket (after k.Signed ts)) _ (a, us) h in
-    let some = optional_sound IsRange part.range range_sound k.OpenBracket refl (after k.Signed ts) bounds.1 bounds.0 bounds.2 in
-    let names = list_sound IsWireName part.wire_name wire_name_sound (λ all. i.Wire (sees k.Signed ts) bounds.0 all) bounds.1 us a bounds.3 in
-    subst (λ w. PlainAt inside p (at p k.Wire ∷ ts) w us) names.3 (wire (word_there k.Signed ts refl) some names.2)
+    let form = and_then_some (part.signed_range ts) _ (a, us) h in
+    let it = signed_range_sound ts form.1 form.0 form.2 in
+    let names = list_sound IsWireName part.wire_name wire_name_sound (λ all. i.Wire form.0.0 form.0.1 all) form.1 us a form.3 in
+    subst (λ w. PlainAt inside p (at p k.Wire ∷ ts) w us) names.3 (wire it.1 it.2 names.2)
 
 pub regs_sound : (inside : Bool) (p : Place) (ts us : Tokens) (a : ItemKind) → read.regs ts ≡ Some (a, us) → PlainAt inside p (at p k.Reg ∷ ts) a us
 unfolding read.regs
 regs_sound inside p ts us a h =
-    let bounds = and_then_some (part.optional part.range k.OpenBracket (after k.Signed ts)) _ (a, us) h in
-    let some = optional_sound IsRange part.range range_sound k.OpenBracket refl (after k.Signed ts) bounds.1 bounds.0 bounds.2 in
-    let names = list_sound IsRegName part.reg_name reg_name_sound (λ all. i.Reg (sees k.Signed ts) bounds.0 all) bounds.1 us a bounds.3 in
-    subst (λ w. PlainAt inside p (at p k.Reg ∷ ts) w us) names.3 (reg (word_there k.Signed ts refl) some names.2)
+    let form = and_then_some (part.signed_range ts) _ (a, us) h in
+    let it = signed_range_sound ts form.1 form.0 form.2 in
+    let names = list_sound IsRegName part.reg_name reg_name_sound (λ all. i.Reg form.0.0 form.0.1 all) form.1 us a form.3 in
+    subst (λ w. PlainAt inside p (at p k.Reg ∷ ts) w us) names.3 (reg it.1 it.2 names.2)
 
--- names, and the semicolon after them
-names_sound : (make : List NamePlace → ItemKind) (ts us : Tokens) (a : ItemKind) → and_then (read.names ts) (λ all. pure (make all)) ≡ Some (a, us)
-    → (all : List NamePlace) × (q : Place) × AreSeparated IsName ts all (at q k.Semicolon ∷ us) × (make all ≡ a)
-unfolding read.names
-names_sound make ts us a h =
-    let names = and_then_some (read.names ts) _ (a, us) h in
-    let all = and_then_some (parts.separated part.name_place ts) _ (names.0, names.1) names.2 in
-    let end = expects k.Semicolon _ all.1 (names.0, names.1) refl all.3 in
-    let found = both all.0 names.0 end.1 names.1 end.3 in
-    let ends = both (make names.0) a names.1 us names.3 in (
-      all.0,
-      end.0,
-      onto (AreSeparated IsName) (end.2 ∙ ap (λ x. at end.0 k.Semicolon ∷ x) (found.1 ∙ ends.1)) (all_sound IsName part.name_place name_place_sound ts all.1 all.0 all.2),
-      ap make found.0 ∙ ends.0,
-    )
-
-pub integers_sound : (inside : Bool) (p : Place) (ts us : Tokens) (a : ItemKind) → and_then (read.names ts) (λ all. pure (i.Integer all)) ≡ Some (a, us)
+pub integers_sound : (inside : Bool) (p : Place) (ts us : Tokens) (a : ItemKind)
+    → and_then (parts.listed part.name_place ts) (λ all. pure (i.Integer all)) ≡ Some (a, us)
     → PlainAt inside p (at p k.Integer ∷ ts) a us
 integers_sound inside p ts us a h =
-    let names = names_sound (λ all. i.Integer all) ts us a h in
+    let names = list_sound IsName part.name_place name_place_sound (λ all. i.Integer all) ts us a h in
     subst (λ w. PlainAt inside p (at p k.Integer ∷ ts) w us) names.3 (integer names.2)
 
-pub genvars_sound : (inside : Bool) (p : Place) (ts us : Tokens) (a : ItemKind) → and_then (read.names ts) (λ all. pure (i.Genvar all)) ≡ Some (a, us)
+pub genvars_sound : (inside : Bool) (p : Place) (ts us : Tokens) (a : ItemKind)
+    → and_then (parts.listed part.name_place ts) (λ all. pure (i.Genvar all)) ≡ Some (a, us)
     → PlainAt inside p (at p k.GenVar ∷ ts) a us
 genvars_sound inside p ts us a h =
-    let names = names_sound (λ all. i.Genvar all) ts us a h in
+    let names = list_sound IsName part.name_place name_place_sound (λ all. i.Genvar all) ts us a h in
     subst (λ w. PlainAt inside p (at p k.GenVar ∷ ts) w us) names.3 (genvar names.2)
 
 pub parameter_sound : (p : Place) (ts us : Tokens) (a : ItemKind) → read.parameters false ts ≡ Some (a, us) → PlainAt false p (at p k.Parameter ∷ ts) a us
@@ -95,7 +89,8 @@ localparam_sound inside p ts us a h =
     let names = list_sound IsParamName part.param_name param_name_sound (λ all. i.Parameter true form.0 all) form.1 us a form.3 in
     subst (λ w. PlainAt inside p (at p k.LocalParam ∷ ts) w us) names.3 (localparam (param_form_sound ts form.1 form.0 form.2) names.2)
 
-pub assignments_sound : (inside : Bool) (p : Place) (ts us : Tokens) (a : ItemKind) → read.assignments ts ≡ Some (a, us) → PlainAt inside p (at p k.Assign ∷ ts) a us
+pub assignments_sound : (inside : Bool) (p : Place) (ts us : Tokens) (a : ItemKind) → read.assignments ts ≡ Some (a, us)
+    → PlainAt inside p (at p k.Assign ∷ ts) a us
 unfolding read.assignments
 assignments_sound inside p ts us a h =
     let all = list_sound IsAssignPart part.assign_part assign_part_sound (λ all. i.Assign all) ts us a h in
@@ -128,13 +123,13 @@ instances_sound : (inside : Bool) (p : Place) (of : List ℕ) (ts us : Tokens) (
     → PlainAt inside p (at p (k.Name of) ∷ ts) a us
 unfolding read.instances
 instances_sound inside p of ts us a h =
-    let values = and_then_some (part.params ts) _ (a, us) h in
+    let values = and_then_some (part.parameter_values ts) _ (a, us) h in
     let made = list_sound IsInstance part.instance instance_sound (λ all. i.Instances of values.0 all) values.1 us a values.3 in
     subst (λ w. PlainAt inside p (at p (k.Name of) ∷ ts) w us) made.3 (items.instances (params_sound ts values.1 values.0 values.2) made.2)
 
 pub labelled_sound : (inside : Bool) (p : Place) (name : List ℕ) (ts us : Tokens) (a : ItemKind)
-    → (part.name_place >>= read.labelled) (at p (k.Name name) ∷ ts) ≡ Some (a, us) → PlainAt inside p (at p (k.Name name) ∷ ts) a us
-unfolding part.name_place parts.a_name read.labelled
+    → (part.name_place >>= read.cover_or_instances) (at p (k.Name name) ∷ ts) ≡ Some (a, us) → PlainAt inside p (at p (k.Name name) ∷ ts) a us
+unfolding part.name_place parts.name_token read.cover_or_instances
 labelled_sound inside p name ts us a h =
     elim (eats k.Colon _ _ ts (a, us) refl h) [
       | inl colon ↦

@@ -3,7 +3,9 @@ use Rattle.std.proofs.Common.{ℕ, ◌<◌, List, length, arith}
 use Rattle.vlog_tree.specs.declared.expression.Expr.{Expr}
 use Rattle.vlog_tree.specs.declared.expression.Select.{Select}
 use Rattle.vlog_grammar.specs.Tokens.{Tokens}
-use Rattle.vlog_grammar.specs.Expressions.{IsExpr, plain, choice, IsBinary, operand, higher, joined, IsUnary, prefix, primary, IsPrimary, number, part, inner, join, repeat, call, IsPart, name, position, slice, twice, IsSelect, single, several, IsSlice, between, up, down, AreExprs, last, more}
+use Rattle.vlog_grammar.specs.Expressions.{IsExpr, plain, choice, IsBinary, operand, higher, joined, IsUnary, prefix, primary, IsPrimary, number, part, inner}
+use Rattle.vlog_grammar.specs.Expressions.{join, repeat, call, IsPart, name, position, slice, twice, IsSelect, single, several, IsSlice, between, up, down}
+use Rattle.vlog_grammar.specs.Expressions.{AreExprs, last, more}
 
 mutual
   pub shorter_expr : {ts us : Tokens} {a : Expr} → IsExpr ts a us → length us < length ts

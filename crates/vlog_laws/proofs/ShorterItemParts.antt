@@ -1,6 +1,6 @@
 -- What spells an item that holds no items has at least one token, and so has each part of it that isn't left out.
 use Rattle.std.proofs.Common.{ℕ, Bool, ◌<◌, ◌≤◌, List, length, arith, Option}
-use Rattle.cov_port.specs.declared.place.Place.{Place}
+use Rattle.cov_types.specs.declared.place.Place.{Place}
 use Rattle.vlog_tokens.specs.declared.token.TokenKind.{TokenKind}
 use Rattle.vlog_tree.specs.declared.expression.Expr.{Expr}
 use Rattle.vlog_tree.specs.declared.expression.RangeExpr.{RangeExpr}
@@ -17,7 +17,11 @@ use Rattle.vlog_tree.specs.declared.item.Item.{Item}
 use Rattle.vlog_grammar.specs.Tokens.{Tokens}
 use Rattle.vlog_grammar.specs.Parts.{IsOptional, written, absent, IsWordThere, there, missing}
 use Rattle.vlog_grammar.specs.Expressions.{IsRange, range}
-use Rattle.vlog_grammar.specs.Items.{IsName, a_name, IsValue, a_value, IsWireName, wire_name, IsRegName, reg_alone, reg_words, reg_start, IsForm, plain_form, integer_form, ranged_form, IsParamName, param_name, IsAssignPart, assign_part, IsClock, star, star_inside, rising, IsNamedConn, left_open, connected, IsConns, no_conns, ordered, by_name, AreParams, no_params, params, IsInstance, instance, IsCover, cover, IsPlainItem, wire, reg, integer, genvar, parameter, localparam, assign, initial, always, cover_alone, cover_labelled, instances}
+use Rattle.vlog_grammar.specs.Items.{IsName, a_name, IsValue, a_value, IsWireName, wire_name, IsRegName, reg_alone, reg_words, reg_start, IsForm, plain_form}
+use Rattle.vlog_grammar.specs.Items.{integer_form, ranged_form, IsParamName, param_name, IsAssignPart, assign_part, IsClock, star, star_inside, rising}
+use Rattle.vlog_grammar.specs.Items.{IsNamedConn, left_open, connected, AreConnections, no_conns, ordered, by_name, AreParameterValues, no_params, params}
+use Rattle.vlog_grammar.specs.Items.{IsInstance, instance, IsCover, cover, IsPlainItem, wire, reg, integer, genvar, parameter, localparam, assign, initial}
+use Rattle.vlog_grammar.specs.Items.{always, cover_alone, cover_labelled, instances}
 use Rattle.vlog_laws.proofs.Shorter.{shorter_expr, shorter_exprs}
 use Rattle.vlog_laws.proofs.ShorterStatements.{shorter_all, shorter_target, shorter_stmt}
 
@@ -67,12 +71,12 @@ pub shorter_named_conn : {ts us : Tokens} {a : NamedConn} → IsNamedConn ts a u
 shorter_named_conn left_open = omega arith
 shorter_named_conn (connected one) = omega (arith, shorter_expr one)
 
-pub shorter_conns : {ts us : Tokens} {a : Conns} → IsConns ts a us → length us < length ts
+pub shorter_conns : {ts us : Tokens} {a : Conns} → AreConnections ts a us → length us < length ts
 shorter_conns no_conns = omega arith
 shorter_conns (ordered all) = omega (arith, shorter_exprs all)
 shorter_conns (by_name all) = omega (arith, shorter_all (λ ts us a one. shorter_named_conn one) all)
 
-pub shorter_params : {ts us : Tokens} {a : Conns} → AreParams ts a us → length us ≤ length ts
+pub shorter_params : {ts us : Tokens} {a : Conns} → AreParameterValues ts a us → length us ≤ length ts
 shorter_params (no_params none) = omega arith
 shorter_params (params all) = omega (arith, shorter_conns all)
 

@@ -7,7 +7,8 @@ use Rattle.vlog_tree.specs.declared.item.GenArm.{GenArm}
 use Rattle.vlog_tree.specs.declared.item.GenBody.{GenBody}
 use Rattle.vlog_grammar.specs.Tokens.{Tokens}
 use Rattle.vlog_grammar.specs.Parts.{IsOptional}
-use Rattle.vlog_grammar.specs.Items.{IsBlockLabel, a_label, IsItem, plain_item, region, loop, choose, AreGenArms, no_else, last_else, else_if, IsGen, gen_block, gen_item, AreItems, no_items, more_items}
+use Rattle.vlog_grammar.specs.Items.{IsBlockLabel, a_label, IsItem, plain_item, region, loop, choose, AreGenArms, no_else, last_else, else_if, IsBranch}
+use Rattle.vlog_grammar.specs.Items.{gen_block, gen_item, AreItems, no_items, more_items}
 use Rattle.vlog_laws.proofs.Shorter.{shorter_expr}
 use Rattle.vlog_laws.proofs.ShorterStatements.{shorter_head}
 use Rattle.vlog_laws.proofs.ShorterItemParts.{shorter_optional, shorter_name, shorter_plain_item}
@@ -30,7 +31,7 @@ mutual
   shorter_gen_arms (last_else test body other) = omega (arith, shorter_expr test, shorter_gen body, shorter_gen other)
   shorter_gen_arms (else_if test body arms) = omega (arith, shorter_expr test, shorter_gen body, shorter_gen_arms arms)
 
-  pub shorter_gen : {ts us : Tokens} {a : GenBody} → IsGen ts a us → length us < length ts
+  pub shorter_gen : {ts us : Tokens} {a : GenBody} → IsBranch ts a us → length us < length ts
   shorter_gen (gen_block name items) = omega (arith, shorter_block_label name, shorter_items items)
   shorter_gen (gen_item none one) = shorter_item one
 

@@ -6,17 +6,19 @@ use Rattle.vlog_tree.specs.declared.module.PortKind.{PortKind}
 use Rattle.vlog_tree.specs.declared.module.Port.{Port}
 use Rattle.vlog_tree.specs.declared.module.Module.{Module}
 use Rattle.vlog_grammar.specs.Tokens.{Tokens}
-use Rattle.vlog_grammar.specs.Modules.{IsGroup, declared, lone, AreGroups, last_group, more_groups, IsHeader, no_header, header, IsDirection, input, output_reg, output_wire, IsPort, declared_port, lone_port, ArePorts, last_port, more_ports, IsPortList, no_list, empty_list, ports, IsModule, a_module}
+use Rattle.vlog_grammar.specs.Modules.{IsSetting, declared, lone, AreSettings, last_setting, more_settings, IsHeader, no_header, header, IsDirection, input}
+use Rattle.vlog_grammar.specs.Modules.{output_reg, output_wire, IsPort, declared_port, lone_port, ArePorts, last_port, more_ports, IsPortList, no_list}
+use Rattle.vlog_grammar.specs.Modules.{empty_list, ports, IsModule, a_module}
 use Rattle.vlog_laws.proofs.ShorterItemParts.{shorter_optional, shorter_word, shorter_range, shorter_form, shorter_param_name}
 use Rattle.vlog_laws.proofs.ShorterItems.{shorter_items}
 
-pub shorter_group : {given : Option ParamForm} {ts us : Tokens} {a : Item} {form : ParamForm} → IsGroup given ts a form us → length us < length ts
+pub shorter_group : {given : Option ParamForm} {ts us : Tokens} {a : Item} {form : ParamForm} → IsSetting given ts a form us → length us < length ts
 shorter_group (declared form name) = omega (arith, shorter_form form, shorter_param_name name)
 shorter_group (lone name) = shorter_param_name name
 
-pub shorter_groups : {given : Option ParamForm} {ts us : Tokens} {all : List Item} → AreGroups given ts all us → length us < length ts
-shorter_groups (last_group one) = shorter_group one
-shorter_groups (more_groups one rest) = omega (arith, shorter_group one, shorter_groups rest)
+pub shorter_groups : {given : Option ParamForm} {ts us : Tokens} {all : List Item} → AreSettings given ts all us → length us < length ts
+shorter_groups (last_setting one) = shorter_group one
+shorter_groups (more_settings one rest) = omega (arith, shorter_group one, shorter_groups rest)
 
 pub shorter_header : {ts us : Tokens} {all : List Item} → IsHeader ts all us → length us ≤ length ts
 shorter_header (no_header none) = omega arith
@@ -28,7 +30,8 @@ shorter_direction output_reg = omega arith
 shorter_direction (output_wire none word) = omega (arith, shorter_word word)
 
 pub shorter_port : {given : Option Port} {ts us : Tokens} {a : Port} → IsPort given ts a us → length us < length ts
-shorter_port (declared_port kind signed range) = omega (arith, shorter_direction kind, shorter_word signed, shorter_optional (λ ts us a one. shorter_range one) range)
+shorter_port (declared_port kind signed range) =
+    omega (arith, shorter_direction kind, shorter_word signed, shorter_optional (λ ts us a one. shorter_range one) range)
 shorter_port lone_port = omega arith
 
 pub shorter_ports : {given : Option Port} {ts us : Tokens} {all : List Port} → ArePorts given ts all us → length us < length ts

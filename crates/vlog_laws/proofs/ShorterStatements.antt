@@ -6,7 +6,10 @@ use Rattle.vlog_tree.specs.declared.statement.CaseArm.{CaseArm}
 use Rattle.vlog_grammar.specs.Tokens.{Tokens}
 use Rattle.vlog_grammar.specs.Parts.{AreSeparated, last, more}
 use Rattle.vlog_grammar.specs.Expressions.{IsTarget, target_part, target_join, AreTargets, last_target, more_targets}
-use Rattle.vlog_grammar.specs.Statements.{IsForHead, for_head, IsCaseItem, plain_item, free_item, IsShown, no_parentheses, no_text, text_alone, text_and_values, IsEnding, no_number, with_number, IsBlockName, named, unnamed, IsStmt, empty, block, if_alone, if_else, case, casez, for, set, later, show, finish, stop, AreStmts, no_stmts, more_stmts, AreArms, last_arm, more_arms, last_default, more_after_default, IsArm, listed, IsDefault, default_colon, default_plain}
+use Rattle.vlog_grammar.specs.Statements.{IsForHead, for_head, IsCaseItem, plain_item, free_item, IsShown, no_parentheses, no_text, text_alone}
+use Rattle.vlog_grammar.specs.Statements.{text_and_values, IsEnding, no_number, with_number, IsBlockName, named, unnamed, IsStmt, empty, block, if_alone}
+use Rattle.vlog_grammar.specs.Statements.{if_else, case, casez, for, set, later, show, finish, stop, AreStmts, no_stmts, more_stmts, AreArms, last_arm}
+use Rattle.vlog_grammar.specs.Statements.{more_arms, last_default, more_after_default, IsArm, listed, IsDefault, default_colon, default_plain}
 use Rattle.vlog_laws.proofs.Shorter.{shorter_expr, shorter_exprs, shorter_part}
 
 pub shorter_all : {A : Type 0} {R : Tokens → A → Tokens → Type 0} → ((ts us : Tokens) (a : A) → R ts a us → length us < length ts)

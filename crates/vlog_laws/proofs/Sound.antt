@@ -1,6 +1,7 @@
 -- What is read as an expression is spelled so.
-use Rattle.std.proofs.Common.{◌≡◌, ℕ, zero, suc, ◌+◌, ◌-◌, ◌<◌, ◌≤◌, max, Bool, cond, ◌==◌, List, [], ◌∷◌, ◌++◌, length, Option, Some, None, refl, sym, ◌∙◌, ap, subst, inl, inr, arith, append_assoc, ltb, ltb-true, ltb-false, lt-ltb, add-one, eqb-true}
-use Rattle.cov_port.specs.declared.place.Place.{Place}
+use Rattle.std.proofs.Common.{◌≡◌, ℕ, zero, suc, ◌+◌, ◌-◌, ◌<◌, ◌≤◌, max, Bool, cond, ◌==◌, List, [], ◌∷◌, ◌++◌, length, Option, Some, None, refl, sym, ◌∙◌}
+use Rattle.std.proofs.Common.{ap, subst, inl, inr, arith, append_assoc, ltb, ltb-true, ltb-false, lt-ltb, add-one, eqb-true}
+use Rattle.cov_types.specs.declared.place.Place.{Place}
 use Rattle.vlog_tokens.specs.declared.token.TokenKind.{TokenKind}
 use Rattle.vlog_tokens.specs.declared.token.TokenKind.TheVariants as k
 use Rattle.vlog_tree.specs.declared.operator.UnaryOp.{UnaryOp}
@@ -11,11 +12,14 @@ use Rattle.vlog_tree.specs.declared.expression.Expr.TheVariants as e
 use Rattle.vlog_tree.specs.declared.expression.Select.{Select}
 use Rattle.vlog_tree.specs.declared.expression.Select.TheVariants as sel
 use Rattle.vlog_grammar.specs.Tokens.{Tokens, at, prefix_of, call_of, tightest}
-use Rattle.vlog_grammar.specs.Expressions.{IsExpr, plain, choice, IsBinary, operand, higher, joined, IsUnary, prefix, primary, IsPrimary, number, part, inner, join, repeat, call, IsPart, name, position, slice, twice, IsSelect, single, several, IsSlice, between, up, down, AreExprs, last, more, SpellsExpr}
-use Rattle.vlog_laws.specs.Marks.{mark}
-use Rattle.vlog_laws.specs.Reading.{Parser, and_then, rest_of, next_infix}
-use Rattle.vlog_laws.specs.ReadExpressions as read
-use Rattle.vlog_laws.proofs.Basics.{level_at, nothing, both, and_then_some, if_parser, same_Some, of_mark, expects, eats, unseen, before, onto, same, infix_it, infix_low, next_low}
+use Rattle.vlog_grammar.specs.Expressions.{IsExpr, plain, choice, IsBinary, operand, higher, joined, IsUnary, prefix, primary, IsPrimary, number, part, inner}
+use Rattle.vlog_grammar.specs.Expressions.{join, repeat, call, IsPart, name, position, slice, twice, IsSelect, single, several, IsSlice, between, up, down}
+use Rattle.vlog_grammar.specs.Expressions.{AreExprs, last, more, SpellsExpr}
+use Rattle.vlog_reading.specs.Marks.{mark}
+use Rattle.vlog_reading.specs.Reading.{Parser, and_then, rest_of, next_infix}
+use Rattle.vlog_reading.specs.ReadExpressions as read
+use Rattle.vlog_laws.proofs.Basics.{level_at, nothing, both, and_then_some, if_parser, same_Some, of_mark, expects, eats, unseen, before, onto, same}
+use Rattle.vlog_laws.proofs.Basics.{infix_it, infix_low, next_low}
 
 -- a level that is read in place of a lower one
 lower : (k n : ℕ) {ts us : Tokens} {a : Expr} → IsBinary (k + n) ts a us → IsBinary n ts a us
@@ -30,9 +34,9 @@ module _ (expr : ℕ → Parser Expr)
     (some_level : (n : ℕ) (ts us : Tokens) (a : Expr) → 2 ≤ n → n ≤ tightest → expr n ts ≡ Some (a, us) → IsBinary n ts a us × (level_at (next_infix us) < n))
     (unary : (ts us : Tokens) (a : Expr) → expr tightest ts ≡ Some (a, us) → IsUnary ts a us)
   where
-    pub within_sound : (close : TokenKind) (ts us : Tokens) (a : Expr) → of_mark (mark close) ≡ Some close → read.within expr close ts ≡ Some (a, us)
+    pub within_sound : (close : TokenKind) (ts us : Tokens) (a : Expr) → of_mark (mark close) ≡ Some close → read.nested_before expr close ts ≡ Some (a, us)
         → (p : Place) × IsExpr ts a (at p close ∷ us)
-    unfolding read.within
+    unfolding read.nested_before
     within_sound close ts us a known h =
         let first = and_then_some (expr 1 ts) _ (a, us) h in
         let shut = expects close _ first.1 (a, us) known first.3 in
@@ -64,7 +68,7 @@ module _ (expr : ℕ → Parser Expr)
         let two = expects k.CloseBrace _ one.1 (a, us) refl one.3 in
         let list : AreExprs vs parts.0 (at one.0 k.CloseBrace ∷ at two.0 k.CloseBrace ∷ two.1) =
         subst (λ x. AreExprs vs x (at one.0 k.CloseBrace ∷ at two.0 k.CloseBrace ∷ two.1)) (sym all.1)
-        (onto AreExprs (one.2 ∙ ap (λ x. at one.0 k.CloseBrace ∷ x) two.2) all.2) in
+        (onto AreExprs {vs = at one.0 k.CloseBrace ∷ at two.0 k.CloseBrace ∷ two.1} (one.2 ∙ ap (λ x. at one.0 k.CloseBrace ∷ x) two.2) all.2) in
         same IsPrimary two.3 (repeat count list)
 
     others_sound : (first : Expr) (ts vs us : Tokens) (all : List Expr) → IsExpr ts first vs → read.others expr first vs ≡ Some (all, us) → AreExprs ts all us
@@ -85,8 +89,8 @@ module _ (expr : ℕ → Parser Expr)
         let shut = expects k.CloseBrace _ parts.1 (a, us) refl parts.3 in
         same IsPrimary shut.3 (join (onto AreExprs shut.2 (others_sound first ts vs parts.1 parts.0 one parts.2)))
 
-    braces_sound : (p : Place) (ts us : Tokens) (a : Expr) → read.braces expr ts ≡ Some (a, us) → IsPrimary (at p k.OpenBrace ∷ ts) a us
-    unfolding read.braces
+    braces_sound : (p : Place) (ts us : Tokens) (a : Expr) → read.in_braces expr ts ≡ Some (a, us) → IsPrimary (at p k.OpenBrace ∷ ts) a us
+    unfolding read.in_braces
     braces_sound p ts us a h =
         let first = and_then_some (expr 1 ts) _ (a, us) h in
         let one = whole ts first.1 first.0 first.2 in
@@ -107,16 +111,16 @@ module _ (expr : ℕ → Parser Expr)
     slice_sound first ts vs us some one h =
         elim (eats k.Colon _ _ vs (some, us) refl h) [
           | inl colon ↦
-              let second = and_then_some (read.within expr k.CloseBracket colon.1) _ (some, us) colon.3 in
+              let second = and_then_some (read.nested_before expr k.CloseBracket colon.1) _ (some, us) colon.3 in
               same IsSlice second.3 (between (onto IsExpr colon.2 one) (within_sound k.CloseBracket colon.1 second.1 second.0 refl second.2).1)
           | inr none ↦
               elim (eats k.PlusColon _ _ vs (some, us) refl none.1) [
                 | inl plus ↦
-                    let second = and_then_some (read.within expr k.CloseBracket plus.1) _ (some, us) plus.3 in
+                    let second = and_then_some (read.nested_before expr k.CloseBracket plus.1) _ (some, us) plus.3 in
                     same IsSlice second.3 (up (onto IsExpr plus.2 one) (within_sound k.CloseBracket plus.1 second.1 second.0 refl second.2).1)
                 | inr neither ↦
                     let minus = expects k.MinusColon _ vs (some, us) refl neither.1 in
-                    let second = and_then_some (read.within expr k.CloseBracket minus.1) _ (some, us) minus.3 in
+                    let second = and_then_some (read.nested_before expr k.CloseBracket minus.1) _ (some, us) minus.3 in
                     same IsSlice second.3 (down (onto IsExpr minus.2 one) (within_sound k.CloseBracket minus.1 second.1 second.0 refl second.2).1)
               ]
         ]
@@ -132,8 +136,8 @@ module _ (expr : ℕ → Parser Expr)
         ]
 
     again_sound : (s : List ℕ) (first : Expr) (p q r : Place) (ts vs us : Tokens) (a : Expr) → IsExpr ts first (at r k.CloseBracket ∷ vs)
-        → read.again expr (e.Select (e.Name s) (sel.At first)) vs ≡ Some (a, us) → IsPart (at p (k.Name s) ∷ at q k.OpenBracket ∷ ts) a us
-    unfolding read.again
+        → read.second_select expr (e.Select (e.Name s) (sel.At first)) vs ≡ Some (a, us) → IsPart (at p (k.Name s) ∷ at q k.OpenBracket ∷ ts) a us
+    unfolding read.second_select
     again_sound s first p q r ts vs us a one h =
         elim (eats k.OpenBracket _ _ vs (a, us) refl h) [
           | inl some ↦
@@ -142,9 +146,9 @@ module _ (expr : ℕ → Parser Expr)
           | inr none ↦ same IsPart none.1 (position one (unseen k.OpenBracket vs none.0))
         ]
 
-    bracketed_sound : (s : List ℕ) (p q : Place) (ts us : Tokens) (a : Expr) → read.bracketed expr s ts ≡ Some (a, us)
+    bracketed_sound : (s : List ℕ) (p q : Place) (ts us : Tokens) (a : Expr) → read.part_after_bracket expr s ts ≡ Some (a, us)
         → IsPart (at p (k.Name s) ∷ at q k.OpenBracket ∷ ts) a us
-    unfolding read.bracketed
+    unfolding read.part_after_bracket
     bracketed_sound s p q ts us a h =
         let first = and_then_some (expr 1 ts) _ (a, us) h in
         let one = whole ts first.1 first.0 first.2 in
@@ -155,8 +159,8 @@ module _ (expr : ℕ → Parser Expr)
               same IsPart some.3 (slice (slice_sound first.0 ts first.1 some.1 some.0 one some.2))
         ]
 
-    pub named_sound : (s : List ℕ) (p : Place) (ts us : Tokens) (a : Expr) → read.named expr s ts ≡ Some (a, us) → IsPart (at p (k.Name s) ∷ ts) a us
-    unfolding read.named
+    pub named_sound : (s : List ℕ) (p : Place) (ts us : Tokens) (a : Expr) → read.part_after_name expr s ts ≡ Some (a, us) → IsPart (at p (k.Name s) ∷ ts) a us
+    unfolding read.part_after_name
     named_sound s p ts us a h =
         elim (eats k.OpenBracket _ _ ts (a, us) refl h) [
           | inl some ↦ before IsPart (ap (λ x. at p (k.Name s) ∷ x) (sym some.2)) (bracketed_sound s p some.0 some.1 us a some.3)
@@ -164,11 +168,11 @@ module _ (expr : ℕ → Parser Expr)
         ]
 
     called_sound : (s : List ℕ) (found : Option SystemCall) (p : Place) (ts us : Tokens) (a : Expr) → call_of s ≡ found
-        → read.called expr found ts ≡ Some (a, us) → IsPrimary (at p (k.System s) ∷ ts) a us
+        → read.system_function expr found ts ≡ Some (a, us) → IsPrimary (at p (k.System s) ∷ ts) a us
     called_sound s None p ts us a known h = nothing (a, us) h
     called_sound s (Some what) p ts us a known h =
         let open1 = expects k.OpenParen _ ts (a, us) refl h in
-        let of = and_then_some (read.within expr k.CloseParen open1.1) _ (a, us) open1.3 in
+        let of = and_then_some (read.nested_before expr k.CloseParen open1.1) _ (a, us) open1.3 in
         same IsPrimary of.3 (before IsPrimary (ap (λ x. at p (k.System s) ∷ x) (sym open1.2))
         (call known (within_sound k.CloseParen open1.1 of.1 of.0 refl of.2).1))
 
@@ -183,7 +187,7 @@ module _ (expr : ℕ → Parser Expr)
           | inr bits ↦ nothing (a, us) bits.1
         ]
 
-    operand_at : (kind : TokenKind) (p : Place) (ts us : Tokens) (a : Expr) → read.operand_by expr (Some kind) (at p kind ∷ ts) ≡ Some (a, us)
+    operand_at : (kind : TokenKind) (p : Place) (ts us : Tokens) (a : Expr) → read.unary_or_primary_by expr (Some kind) (at p kind ∷ ts) ≡ Some (a, us)
         → IsUnary (at p kind ∷ ts) a us
     operand_at (k.Number width signed value free) p ts us a h = primary (number_sound width value free signed p ts us a h)
     operand_at (k.Name s) p ts us a h = primary (part (named_sound s p ts us a h))
@@ -192,8 +196,8 @@ module _ (expr : ℕ → Parser Expr)
     operand_at k.OpenBrace p ts us a h = primary (braces_sound p ts us a h)
     operand_at kind p ts us a h = prefixed_sound kind (prefix_of kind) p ts us a refl h
 
-    operand_sound : (ts us : Tokens) (a : Expr) → read.operand expr ts ≡ Some (a, us) → IsUnary ts a us
-    unfolding read.operand
+    operand_sound : (ts us : Tokens) (a : Expr) → read.unary_or_primary expr ts ≡ Some (a, us) → IsUnary ts a us
+    unfolding read.unary_or_primary
     operand_sound [] us a h = nothing (a, us) h
     operand_sound (t ∷ ts) us a h = operand_at t.what t.place ts us a h
 
@@ -231,7 +235,9 @@ module _ (expr : ℕ → Parser Expr)
         climb_stops m least ts r us a b h tree (let z : level_at (next_infix r) ≡ 0 = ap level_at next in omega arith) found
     climb_by_sound (Some o) t m least ts r us a b two h tree next below again found =
         elim (if_parser (ltb o.0 least) _ _ r (Some (b, us)) found) [
-          | inl stop ↦ climb_stops m least ts r us a b h tree (let z : level_at (next_infix r) ≡ o.0 = ap level_at next in omega (arith, ltb-true o.0 least stop.0)) stop.1
+          | inl stop ↦
+              let z : level_at (next_infix r) ≡ o.0 = ap level_at next in
+              climb_stops m least ts r us a b h tree (omega (arith, z, ltb-true o.0 least stop.0)) stop.1
           | inr goes ↦ climb_turn t m o.0 least o.1 ts r us a b two (ltb-false o.0 least goes.0) below tree next again goes.1
         ]
 
@@ -243,44 +249,49 @@ module _ (expr : ℕ → Parser Expr)
         climb_by_sound (next_infix r) t m least ts r us a b two h tree refl next
         (λ m' r' a' h' tree' next' found'. climb_sound t m' least ts r' us a' b two h' tree' next' found') found
 
-    operations_sound : (least : ℕ) (ts vs us : Tokens) (first a : Expr) → 2 ≤ least → least ≤ tightest → read.operand expr ts ≡ Some (first, vs)
-        → read.operations expr least first vs ≡ Some (a, us) → IsBinary least ts a us × (level_at (next_infix us) < least)
-    unfolding read.operations
+    operations_sound : (least : ℕ) (ts vs us : Tokens) (first a : Expr) → 2 ≤ least → least ≤ tightest → read.unary_or_primary expr ts ≡ Some (first, vs)
+        → read.binary_rest expr least first vs ≡ Some (a, us) → IsBinary least ts a us × (level_at (next_infix us) < least)
+    unfolding read.binary_rest
     operations_sound least ts vs us first a two low one h =
         climb_sound (length vs + 1) tightest least ts vs us first a two low (operand (operand_sound ts vs first one)) (omega (arith, next_low vs)) h
 
-    chosen_sound : (ts vs us : Tokens) (test a : Expr) → IsBinary 2 ts test vs → read.chosen expr test vs ≡ Some (a, us) → IsExpr ts a us
-    unfolding read.chosen
+    chosen_sound : (ts vs us : Tokens) (test a : Expr) → IsBinary 2 ts test vs → read.conditional_rest expr test vs ≡ Some (a, us) → IsExpr ts a us
+    unfolding read.conditional_rest
     chosen_sound ts vs us test a tree h =
         elim (eats k.Question _ _ vs (a, us) refl h) [
           | inl some ↦
-              let first = and_then_some (read.within expr k.Colon some.1) _ (a, us) some.3 in
+              let first = and_then_some (read.nested_before expr k.Colon some.1) _ (a, us) some.3 in
               let second = and_then_some (expr 1 first.1) _ (a, us) first.3 in
               same IsExpr second.3 (choice (subst (λ x. IsBinary 2 ts test x) some.2 tree)
               (within_sound k.Colon some.1 first.1 first.0 refl first.2).1 (whole _ _ _ second.2))
           | inr none ↦ same IsExpr none.1 (plain tree)
         ]
 
-    pub level_whole : (ts us : Tokens) (a : Expr) → read.level expr 1 ts ≡ Some (a, us) → IsExpr ts a us
-    unfolding read.level
+    pub level_whole : (ts us : Tokens) (a : Expr) → read.at_level expr 1 ts ≡ Some (a, us) → IsExpr ts a us
+    unfolding read.at_level
     level_whole ts us a h =
-        let first = and_then_some (read.operand expr ts) _ (a, us) h in
-        let all = and_then_some (read.operations expr 2 first.0 first.1) _ (a, us) first.3 in
+        let first = and_then_some (read.unary_or_primary expr ts) _ (a, us) h in
+        let all = and_then_some (read.binary_rest expr 2 first.0 first.1) _ (a, us) first.3 in
         chosen_sound ts all.1 us all.0 a (operations_sound 2 ts first.1 all.1 first.0 all.0 (omega arith) (omega arith) first.2 all.2).0 all.3
 
-    pub level_some : (n : ℕ) (ts us : Tokens) (a : Expr) → 2 ≤ n → n ≤ tightest → read.level expr n ts ≡ Some (a, us)
+    pub level_some : (n : ℕ) (ts us : Tokens) (a : Expr) → 2 ≤ n → n ≤ tightest → read.at_level expr n ts ≡ Some (a, us)
         → IsBinary n ts a us × (level_at (next_infix us) < n)
-    unfolding read.level
+    unfolding read.at_level
     level_some n ts us a two low h =
-        let first = and_then_some (read.operand expr ts) _ (a, us) h in
-        let all = and_then_some (read.operations expr (max n 2) first.0 first.1) _ (a, us) first.3 in
+        let first = and_then_some (read.unary_or_primary expr ts) _ (a, us) h in
+        let all = and_then_some (read.binary_rest expr (max n 2) first.0 first.1) _ (a, us) first.3 in
         let same : max n 2 ≡ n = omega arith in
-        let tree = operations_sound n ts first.1 all.1 first.0 all.0 two low first.2 (subst (λ m. read.operations expr m first.0 first.1 ≡ Some (all.0, all.1)) same all.2) in
+        let tree =
+        operations_sound n ts first.1 all.1 first.0 all.0 two low first.2 (subst (λ m. read.binary_rest expr m first.0 first.1 ≡ Some
+        (all.0, all.1)) same all.2) in
         elim (if_parser (ltb n 2) _ _ all.1 (Some (a, us)) all.3) [
           | inl less ↦ absurd (omega (arith, ltb-true n 2 less.0))
           | inr ends ↦
-              let parts = both all.0 a all.1 us ends.1 in
-              (subst (λ x. IsBinary n ts x us) parts.0 (subst (λ x. IsBinary n ts all.0 x) parts.1 tree.0), subst (λ x. level_at (next_infix x) < n) parts.1 tree.1)
+              let parts = both all.0 a all.1 us ends.1 in (
+                subst (λ x. IsBinary n ts x us) parts.0 (subst (λ x. IsBinary n ts all.0 x) parts.1 tree.0),
+                subst (λ x. level_at
+                    (next_infix x) < n) parts.1 tree.1,
+              )
         ]
 
     climb_tight : (found : Option (ℕ × BinaryOp)) (t : ℕ) (a : Expr) (r : Tokens) → level_at found < tightest
@@ -288,11 +299,11 @@ module _ (expr : ℕ → Parser Expr)
     climb_tight None t a r low = refl
     climb_tight (Some o) t a r low = rw (lt-ltb o.0 tightest low) refl
 
-    pub level_unary : (ts us : Tokens) (a : Expr) → read.level expr tightest ts ≡ Some (a, us) → IsUnary ts a us
-    unfolding read.level read.operations read.climb
+    pub level_unary : (ts us : Tokens) (a : Expr) → read.at_level expr tightest ts ≡ Some (a, us) → IsUnary ts a us
+    unfolding read.at_level read.binary_rest read.climb
     level_unary ts us a h =
-        let first = and_then_some (read.operand expr ts) _ (a, us) h in
-        let all = and_then_some (read.operations expr tightest first.0 first.1) _ (a, us) first.3 in
+        let first = and_then_some (read.unary_or_primary expr ts) _ (a, us) h in
+        let all = and_then_some (read.binary_rest expr tightest first.0 first.1) _ (a, us) first.3 in
         let turn : read.climb expr tightest (length first.1 + 1) first.0 first.1 ≡ Some (first.0, first.1) =
         rw (add-one (length first.1)) (climb_tight (next_infix first.1) (length first.1) first.0 first.1 (next_low first.1)) in
         let ends = both first.0 all.0 first.1 all.1 (sym turn ∙ all.2) in

@@ -1,7 +1,8 @@
 -- What is spelled as a statement is read so.
-use Rattle.std.proofs.Common.{◌≡◌, ℕ, zero, suc, ◌<◌, ◌≤◌, Bool, true, false, ◌==◌, List, [], ◌∷◌, ◌++◌, length, Option, Some, None, is_some, refl, sym, ◌∙◌, ap, arith, append_assoc}
+use Rattle.std.proofs.Common.{◌≡◌, ℕ, zero, suc, ◌<◌, ◌≤◌, Bool, true, false, ◌==◌, List, [], ◌∷◌, ◌++◌, length, Option, Some, None, is_some, refl, sym, ◌∙◌}
+use Rattle.std.proofs.Common.{ap, arith, append_assoc}
 use Rattle.std.specs.Prelude.{codes}
-use Rattle.cov_port.specs.declared.place.Place.{Place}
+use Rattle.cov_types.specs.declared.place.Place.{Place}
 use Rattle.vlog_tokens.specs.declared.token.TokenKind.{TokenKind}
 use Rattle.vlog_tokens.specs.declared.token.TokenKind.TheVariants as k
 use Rattle.vlog_tree.specs.declared.operator.UnaryOp.{UnaryOp}
@@ -13,16 +14,21 @@ use Rattle.vlog_tree.specs.declared.statement.CaseArm.{CaseArm}
 use Rattle.vlog_grammar.specs.Tokens.{Tokens, at, prefix_of}
 use Rattle.vlog_grammar.specs.Parts.{AreSeparated}
 use Rattle.vlog_grammar.specs.Parts as list
-use Rattle.vlog_grammar.specs.Expressions.{IsExpr, plain, choice, IsBinary, operand, higher, joined, IsUnary, prefix, primary, IsPrimary, number, part, inner, join, repeat, call, IsPart, name, position, slice, twice, IsTarget, target_part, target_join}
-use Rattle.vlog_grammar.specs.Statements.{IsCaseItem, plain_item, free_item, IsShown, no_parentheses, no_text, text_alone, text_and_values, IsEnding, no_number, with_number, IsBlockName, named, unnamed, IsStmt, empty, block, if_alone, if_else, case, casez, for, set, later, show, finish, stop, AreStmts, no_stmts, more_stmts, AreArms, last_arm, more_arms, last_default, more_after_default, IsArm, listed, IsDefault, default_colon, default_plain, SpellsStmt}
-use Rattle.vlog_laws.specs.Marks.{mark}
-use Rattle.vlog_laws.specs.Reading.{Parser, sees, after, expect, first_kind}
-use Rattle.vlog_laws.specs.ReadExpressions.{expression}
-use Rattle.vlog_laws.specs.ReadParts as parts
-use Rattle.vlog_laws.specs.ReadStatements as read
+use Rattle.vlog_grammar.specs.Expressions.{IsExpr, plain, choice, IsBinary, operand, higher, joined, IsUnary, prefix, primary, IsPrimary, number, part, inner}
+use Rattle.vlog_grammar.specs.Expressions.{join, repeat, call, IsPart, name, position, slice, twice, IsTarget, target_part, target_join}
+use Rattle.vlog_grammar.specs.Statements.{IsCaseItem, plain_item, free_item, IsShown, no_parentheses, no_text, text_alone, text_and_values, IsEnding}
+use Rattle.vlog_grammar.specs.Statements.{no_number, with_number, IsBlockName, named, unnamed, IsStmt, empty, block, if_alone, if_else, case, casez, for, set}
+use Rattle.vlog_grammar.specs.Statements.{later, show, finish, stop, AreStmts, no_stmts, more_stmts, AreArms, last_arm, more_arms, last_default}
+use Rattle.vlog_grammar.specs.Statements.{more_after_default, IsArm, listed, IsDefault, default_colon, default_plain, SpellsStmt}
+use Rattle.vlog_reading.specs.Marks.{mark}
+use Rattle.vlog_reading.specs.Reading.{Parser, sees, after, expect, first_kind}
+use Rattle.vlog_reading.specs.ReadExpressions.{expression}
+use Rattle.vlog_reading.specs.ReadParts as parts
+use Rattle.vlog_reading.specs.ReadStatements as read
 use Rattle.vlog_laws.proofs.Basics.{Ends, ends_at, not_seen, sees_at, sees_other, after_it, goes, goes_mark, eat_yes, eat_no, eat_other, after_none, same_Some}
 use Rattle.vlog_laws.proofs.Shorter.{shorter_expr}
-use Rattle.vlog_laws.proofs.ShorterStatements.{shorter_head, shorter_item, shorter_items, shorter_block_name, shorter_stmt, shorter_stmts, shorter_arms, shorter_arm, shorter_default}
+use Rattle.vlog_laws.proofs.ShorterStatements.{shorter_head, shorter_item, shorter_items, shorter_block_name, shorter_stmt, shorter_stmts, shorter_arms}
+use Rattle.vlog_laws.proofs.ShorterStatements.{shorter_arm, shorter_default}
 use Rattle.vlog_laws.proofs.Complete.{expression_complete}
 use Rattle.vlog_laws.proofs.PartsComplete.{all_complete, exprs_complete, name_complete, until_complete, test_complete, whole_target_complete, for_head_complete}
 use Rattle.vlog_laws.proofs.StatementsSound.{append_nil}
@@ -90,7 +96,8 @@ unfolding sees
 front_item {wild} {ts} (plain_item one) = not_in_front ts (front_expr one)
 front_item (free_item bits) = (refl, refl)
 
-front_items : {wild : Bool} {ts us : Tokens} {all : List Expr} → AreSeparated (IsCaseItem wild) ts all us → (sees k.EndCase ts ≡ false) × (sees k.Default ts ≡ false)
+front_items : {wild : Bool} {ts us : Tokens} {all : List Expr} → AreSeparated (IsCaseItem wild) ts all us
+    → (sees k.EndCase ts ≡ false) × (sees k.Default ts ≡ false)
 front_items (list.last one) = front_item one
 front_items (list.more one rest) = front_item one
 
@@ -170,8 +177,9 @@ expect_last : (kind : TokenKind) (r : Place) (us : Tokens) → expect kind (at r
 unfolding expect
 expect_last kind r us = rw (sees_at kind r us) refl
 
-shown_complete : (ts us : Tokens) (text : Option (List ℕ)) (values : List Expr) → IsShown ts text values us → read.shown ts ≡ Some ((text, values), us)
-unfolding read.shown read.shown_text read.a_text
+shown_complete : (ts us : Tokens) (text : Option (List ℕ)) (values : List Expr) → IsShown ts text values us
+    → read.display_arguments ts ≡ Some ((text, values), us)
+unfolding read.display_arguments read.text_and_values read.text_token
 shown_complete ts us text values (no_parentheses none) = eat_no k.OpenParen us _ _ (not_seen k.OpenParen us refl none) refl
 shown_complete ts us text values (no_text {p = p} {q = q}) = eat_yes k.OpenParen p (at q k.CloseParen ∷ us) _ _ (eat_yes k.CloseParen q us _ _ refl)
 shown_complete ts us text values (text_alone {p = p} {q = q} {r = r} {text = words}) =
@@ -181,11 +189,12 @@ shown_complete ts us text values (text_alone {p = p} {q = q} {r = r} {text = wor
 shown_complete ts us text values (text_and_values {us = vs} {p = p} {q = q} {r = r} {o = o} {text = words} all) =
     eat_yes k.OpenParen p (at q (k.Text words) ∷ at r k.Comma ∷ vs) _ _
     (eat_no k.CloseParen (at q (k.Text words) ∷ at r k.Comma ∷ vs) _ _ (text_no_close q words (at r k.Comma ∷ vs))
-    (goes _ (eat_yes k.Comma r vs _ _ (exprs_complete vs (at o k.CloseParen ∷ us) values all (ends_at k.CloseParen o us refl refl) (sees_other k.Comma k.CloseParen o us refl)))
+    (goes _ (eat_yes k.Comma r vs _ _ (exprs_complete vs (at o k.CloseParen ∷ us) values all (ends_at k.CloseParen o us refl refl)
+    (sees_other k.Comma k.CloseParen o us refl)))
     (goes_mark k.CloseParen o us _ refl)))
 
-ending_complete : (ts us : Tokens) → IsEnding ts us → read.ending ts ≡ Some (tt, us)
-unfolding read.ending read.a_number
+ending_complete : (ts us : Tokens) → IsEnding ts us → read.stop_number ts ≡ Some (tt, us)
+unfolding read.stop_number read.number_token
 ending_complete ts us (no_number none) = eat_no k.OpenParen us _ _ (not_seen k.OpenParen us refl none) refl
 ending_complete ts us (with_number {p = p} {q = q} {r = r} {width = width} {value = value} {signed = signed}) =
     eat_yes k.OpenParen p (at q (k.Number width signed value 0) ∷ at r k.CloseParen ∷ us) _ _ (expect_last k.CloseParen r us)
@@ -196,29 +205,29 @@ block_name_complete ts us (named {p = p} {q = q} {name = s}) =
     eat_yes k.Colon p (at q (k.Name s) ∷ us) _ _ (goes _ (name_complete q s us) refl)
 block_name_complete ts us (unnamed none) = eat_no k.Colon us _ _ (not_seen k.Colon us refl none) refl
 
-closed_complete : (q : Place) (ts us : Tokens) → IsEnding ts (at q k.Semicolon ∷ us) → read.closed ts ≡ Some (tt, us)
-unfolding read.closed
+closed_complete : (q : Place) (ts us : Tokens) → IsEnding ts (at q k.Semicolon ∷ us) → read.stop_number_and_semicolon ts ≡ Some (tt, us)
+unfolding read.stop_number_and_semicolon
 closed_complete q ts us end = goes _ (ending_complete ts (at q k.Semicolon ∷ us) end) (expect_last k.Semicolon q us)
 
-ended_complete : (q : Place) (ts us : Tokens) (what : StmtKind) → IsEnding ts (at q k.Semicolon ∷ us) → read.ended what ts ≡ Some (what, us)
-unfolding read.ended
+ended_complete : (q : Place) (ts us : Tokens) (what : StmtKind) → IsEnding ts (at q k.Semicolon ∷ us) → read.stopping what ts ≡ Some (what, us)
+unfolding read.stopping
 ended_complete q ts us what end = goes _ (closed_complete q ts us end) refl
 
 show_complete : (name : List ℕ) (q : Place) (ts us : Tokens) (text : Option (List ℕ)) (values : List Expr) → name ≡ codes "$display"
-    → IsShown ts text values (at q k.Semicolon ∷ us) → read.system name ts ≡ Some (s.Show text values, us)
-unfolding read.system read.show
+    → IsShown ts text values (at q k.Semicolon ∷ us) → read.system_task name ts ≡ Some (s.Show text values, us)
+unfolding read.system_task read.display
 show_complete called q ts us text values known shown =
-    ap (λ n. read.system n ts) known ∙ goes _ (shown_complete ts (at q k.Semicolon ∷ us) text values shown) (goes_mark k.Semicolon q us _ refl)
+    ap (λ n. read.system_task n ts) known ∙ goes _ (shown_complete ts (at q k.Semicolon ∷ us) text values shown) (goes_mark k.Semicolon q us _ refl)
 
 finish_complete : (name : List ℕ) (q : Place) (ts us : Tokens) → name ≡ codes "$finish" → IsEnding ts (at q k.Semicolon ∷ us)
-    → read.system name ts ≡ Some (s.Finish, us)
-unfolding read.system
-finish_complete called q ts us known end = ap (λ n. read.system n ts) known ∙ ended_complete q ts us s.Finish end
+    → read.system_task name ts ≡ Some (s.Finish, us)
+unfolding read.system_task
+finish_complete called q ts us known end = ap (λ n. read.system_task n ts) known ∙ ended_complete q ts us s.Finish end
 
 stop_complete : (name : List ℕ) (q : Place) (ts us : Tokens) → name ≡ codes "$stop" → IsEnding ts (at q k.Semicolon ∷ us)
-    → read.system name ts ≡ Some (s.Stop, us)
-unfolding read.system
-stop_complete called q ts us known end = ap (λ n. read.system n ts) known ∙ ended_complete q ts us s.Stop end
+    → read.system_task name ts ≡ Some (s.Stop, us)
+unfolding read.system_task
+stop_complete called q ts us known end = ap (λ n. read.system_task n ts) known ∙ ended_complete q ts us s.Stop end
 
 module _ (statement : Parser Stmt) (d : ℕ) (whole : (ts us : Tokens) (a : Stmt) → length ts ≤ d → IsStmt ts a us → statement ts ≡ Some (a, us)) where
   body_complete : (t : ℕ) (found all : List Stmt) (ts us : Tokens) → AreStmts ts all us → sees k.End us ≡ true → length ts ≤ t → length ts ≤ d
@@ -245,7 +254,7 @@ module _ (statement : Parser Stmt) (d : ℕ) (whole : (ts us : Tokens) (a : Stmt
 
   arms_complete : (wild : Bool) (t : ℕ) (seen : Bool) (found all : List CaseArm) (ts us : Tokens) → AreArms wild seen ts all us → sees k.EndCase us ≡ true
       → length ts ≤ t → length ts ≤ d → read.arms_from statement wild t seen found ts ≡ Some (found ++ all, us)
-  unfolding read.arms_from read.one_arm
+  unfolding read.arms_from read.arm_or_default
   arms_complete wild zero seen found all ts us arms halt turns deep = absurd (omega (arith, shorter_arms arms))
   arms_complete wild (suc t) seen found all ts us (last_arm {a = a} one) halt turns deep =
       rw ((front_arm one).1) (goes _ (listed_complete wild ts us a one deep) (rw halt refl))
@@ -261,19 +270,21 @@ module _ (statement : Parser Stmt) (d : ℕ) (whole : (ts us : Tokens) (a : Stmt
       ∙ ap (λ x. Some (x, us)) (append_assoc found (a ∷ []) others))))
 
   case_complete : (wild : Bool) (q r o : Place) (ts vs us : Tokens) (on : Expr) (arms : List CaseArm) → IsExpr ts on (at r k.CloseParen ∷ vs)
-      → AreArms wild false vs arms (at o k.EndCase ∷ us) → length ts ≤ d → read.case statement wild (at q k.OpenParen ∷ ts) ≡ Some (s.Case wild on arms, us)
-  unfolding read.case read.arms
+      → AreArms wild false vs arms (at o k.EndCase ∷ us) → length ts ≤ d
+      → read.case_statement statement wild (at q k.OpenParen ∷ ts) ≡ Some (s.Case wild on arms, us)
+  unfolding read.case_statement read.arms
   case_complete wild q r o ts vs us on arms test all deep =
       goes _ (test_complete q r ts vs on test)
-      (goes _ (arms_complete wild (length vs) false [] arms vs (at o k.EndCase ∷ us) all (sees_at k.EndCase o us) (omega arith) (omega (arith, shorter_expr test)))
+      (goes _ (arms_complete wild (length vs) false [] arms vs (at o k.EndCase ∷ us) all (sees_at k.EndCase o us) (omega arith)
+      (omega (arith, shorter_expr test)))
       (goes_mark k.EndCase o us _ refl))
 
-  else_complete : (o : Place) (a : Stmt) (ts us : Tokens) → IsStmt ts a us → length ts ≤ d → read.other statement (at o k.Else ∷ ts) ≡ Some (Some a, us)
-  unfolding read.other
+  else_complete : (o : Place) (a : Stmt) (ts us : Tokens) → IsStmt ts a us → length ts ≤ d → read.else_part statement (at o k.Else ∷ ts) ≡ Some (Some a, us)
+  unfolding read.else_part
   else_complete o a ts us tree deep = eat_yes k.Else o ts _ _ (goes _ (whole ts us a deep tree) refl)
 
-  no_else_complete : (us : Tokens) → sees k.Else us ≡ false → read.other statement us ≡ Some (None, us)
-  unfolding read.other
+  no_else_complete : (us : Tokens) → sees k.Else us ≡ false → read.else_part statement us ≡ Some (None, us)
+  unfolding read.else_part
   no_else_complete us none = eat_no k.Else us _ _ none refl
 
   kind_assign : (ts us : Tokens) (a : Expr) → IsTarget ts a us → read.kind_by statement (first_kind ts) ts ≡ read.assignment ts
@@ -285,20 +296,21 @@ module _ (statement : Parser Stmt) (d : ℕ) (whole : (ts us : Tokens) (a : Stmt
 
   set_complete : (q r : Place) (ts vs us : Tokens) (target value : Expr) → IsTarget ts target (at q k.EqualSign ∷ vs) → IsExpr vs value (at r k.Semicolon ∷ us)
       → read.assignment ts ≡ Some (s.Set target value, us)
-  unfolding read.assignment
+  unfolding read.assignment read.blocking
   set_complete q r ts vs us target value one two =
       goes _ (whole_target_complete ts (at q k.EqualSign ∷ vs) target one) (eat_other k.LessOrEqual k.EqualSign q vs _ _ refl
       (goes_mark k.EqualSign q vs _ (goes _ (until_complete k.Semicolon r vs us value refl refl two) refl)))
 
-  later_complete : (q r : Place) (ts vs us : Tokens) (target value : Expr) → IsTarget ts target (at q k.LessOrEqual ∷ vs) → IsExpr vs value (at r k.Semicolon ∷ us)
+  later_complete : (q r : Place) (ts vs us : Tokens) (target value : Expr) → IsTarget ts target (at q k.LessOrEqual ∷ vs)
+      → IsExpr vs value (at r k.Semicolon ∷ us)
       → read.assignment ts ≡ Some (s.Later target value, us)
-  unfolding read.assignment
+  unfolding read.assignment read.blocking
   later_complete q r ts vs us target value one two =
       goes _ (whole_target_complete ts (at q k.LessOrEqual ∷ vs) target one) (eat_yes k.LessOrEqual q vs _ _
       (goes _ (until_complete k.Semicolon r vs us value refl refl two) refl))
 
   layer_complete : (a : Stmt) (ts us : Tokens) → IsStmt ts a us → length ts ≤ suc d → read.layer statement ts ≡ Some (a, us)
-  unfolding read.layer read.block read.body read.choice read.repetition
+  unfolding read.layer read.block read.body read.if_statement read.for_statement
   layer_complete a ts us empty deep = refl
   layer_complete a ts us (block {us = xs} {vs = vs} {q = q} {body = body} called stmts) deep =
       goes _ (goes _ (block_name_complete xs vs called)
@@ -314,8 +326,10 @@ module _ (statement : Parser Stmt) (d : ℕ) (whole : (ts us : Tokens) (a : Stmt
       goes _ (case_complete false q r o vs ws us on arms test all (omega arith)) refl
   layer_complete a ts us (casez {us = vs} {vs = ws} {q = q} {r = r} {o = o} {on = on} {arms = arms} test all) deep =
       goes _ (case_complete true q r o vs ws us on arms test all (omega arith)) refl
-  layer_complete a ts us (for {us = vs} {vs = ws} {name = called} {step_name = step_name} {from = from} {test = test} {step = step} {body = body} head tree) deep =
-      goes _ (goes _ (for_head_complete vs ws called step_name from test step head) (goes _ (whole ws us body (omega (arith, shorter_head head)) tree) refl)) refl
+  layer_complete a ts us
+      (for {us = vs} {vs = ws} {name = called} {step_name = step_name} {from = from} {test = test} {step = step} {body = body} head tree) deep =
+      goes _ (goes _ (for_head_complete vs ws called step_name from test step head) (goes _ (whole ws us body
+      (omega (arith, shorter_head head)) tree) refl)) refl
   layer_complete a ts us (set {us = xs} {vs = vs} {t = t} {q = q} {r = r} {target = target} {value = value} one two) deep =
       goes _ (kind_assign (t ∷ xs) (at q k.EqualSign ∷ vs) target one ∙ set_complete q r (t ∷ xs) vs us target value one two) refl
   layer_complete a ts us (later {us = xs} {vs = vs} {t = t} {q = q} {r = r} {target = target} {value = value} one two) deep =

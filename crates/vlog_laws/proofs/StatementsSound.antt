@@ -1,9 +1,10 @@
 -- What is read as a statement is spelled so.
-use Rattle.std.proofs.Common.{◌≡◌, ℕ, zero, suc, Bool, true, false, not, cond, ◌==◌, ◌&&◌, ◌||◌, List, [], ◌∷◌, ◌++◌, length, Option, Some, None, refl, sym, ◌∙◌, ap, subst, inl, inr, arith, append_assoc, eqb-true}
+use Rattle.std.proofs.Common.{◌≡◌, ℕ, zero, suc, Bool, true, false, not, cond, ◌==◌, ◌&&◌, ◌||◌, List, [], ◌∷◌, ◌++◌, length, Option, Some, None, refl, sym}
+use Rattle.std.proofs.Common.{◌∙◌, ap, subst, inl, inr, arith, append_assoc, eqb-true}
 use Rattle.std.specs.Prelude.{codes}
 use Rattle.std.specs.Str.{bytes_eq}
 use Rattle.std.proofs.lemmas.Slice.Eq.{bytes_eq-Decides}
-use Rattle.cov_port.specs.declared.place.Place.{Place}
+use Rattle.cov_types.specs.declared.place.Place.{Place}
 use Rattle.vlog_tokens.specs.declared.token.TokenKind.{TokenKind}
 use Rattle.vlog_tokens.specs.declared.token.TokenKind.TheVariants as k
 use Rattle.vlog_tree.specs.declared.expression.Expr.{Expr}
@@ -12,16 +13,21 @@ use Rattle.vlog_tree.specs.declared.statement.Stmt.{Stmt}
 use Rattle.vlog_tree.specs.declared.statement.StmtKind.{StmtKind}
 use Rattle.vlog_tree.specs.declared.statement.StmtKind.TheVariants as s
 use Rattle.vlog_tree.specs.declared.statement.CaseArm.{CaseArm}
+use Rattle.vlog_tree.specs.Trees.{stmt, case_arm}
 use Rattle.vlog_grammar.specs.Tokens.{Tokens, at}
 use Rattle.vlog_grammar.specs.Parts.{AreSeparated}
 use Rattle.vlog_grammar.specs.Expressions.{IsExpr, AreExprs, IsTarget}
-use Rattle.vlog_grammar.specs.Statements.{stmt, arm, IsCaseItem, plain_item, free_item, IsShown, no_parentheses, no_text, text_alone, text_and_values, IsEnding, no_number, with_number, IsBlockName, named, unnamed, IsStmt, empty, block, if_alone, if_else, case, casez, for, set, later, show, finish, stop, AreStmts, no_stmts, more_stmts, AreArms, last_arm, more_arms, last_default, more_after_default, IsArm, listed, IsDefault, default_colon, default_plain, SpellsStmt}
-use Rattle.vlog_laws.specs.Marks.{mark}
-use Rattle.vlog_laws.specs.Reading.{Parser, sees, after, expect, rest_of, first_place}
-use Rattle.vlog_laws.specs.ReadExpressions.{expression}
-use Rattle.vlog_laws.specs.ReadParts as parts
-use Rattle.vlog_laws.specs.ReadStatements as read
-use Rattle.vlog_laws.proofs.Basics.{nothing, both, and_then_some, if_parser, if_some, bool_cases, of_mark, sees_it, after_it, after_none, expects, eats, unseen, before, onto, same}
+use Rattle.vlog_grammar.specs.Statements.{IsCaseItem, plain_item, free_item, IsShown, no_parentheses, no_text, text_alone, text_and_values, IsEnding}
+use Rattle.vlog_grammar.specs.Statements.{no_number, with_number, IsBlockName, named, unnamed, IsStmt, empty, block, if_alone, if_else, case, casez, for, set}
+use Rattle.vlog_grammar.specs.Statements.{later, show, finish, stop, AreStmts, no_stmts, more_stmts, AreArms, last_arm, more_arms, last_default}
+use Rattle.vlog_grammar.specs.Statements.{more_after_default, IsArm, listed, IsDefault, default_colon, default_plain, SpellsStmt}
+use Rattle.vlog_reading.specs.Marks.{mark}
+use Rattle.vlog_reading.specs.Reading.{Parser, sees, after, expect, rest_of, first_place}
+use Rattle.vlog_reading.specs.ReadExpressions.{expression}
+use Rattle.vlog_reading.specs.ReadParts as parts
+use Rattle.vlog_reading.specs.ReadStatements as read
+use Rattle.vlog_laws.proofs.Basics.{nothing, both, and_then_some, if_parser, if_some, bool_cases, of_mark, sees_it, after_it, after_none, expects, eats}
+use Rattle.vlog_laws.proofs.Basics.{unseen, before, onto, same}
 use Rattle.vlog_laws.proofs.Sound.{expression_sound, whole_some}
 use Rattle.vlog_laws.proofs.PartsSound.{all_sound, exprs_sound, name_sound, until_sound, test_sound, whole_target_sound, for_head_sound}
 use Rattle.vlog_laws.proofs.ShorterStatements.{shorter_target, shorter_items}
@@ -51,15 +57,15 @@ unfolding read.case_item
 item_sound wild [] us a h = plain_item (expression_sound [] us a h)
 item_sound wild (t ∷ ts) us a h = item_front wild t.what t.place ts us a h
 
-text_front : (kind : TokenKind) (p : Place) (ts us : Tokens) (s : List ℕ) → read.a_text_by (Some kind) (at p kind ∷ ts) ≡ Some (s, us)
+text_front : (kind : TokenKind) (p : Place) (ts us : Tokens) (s : List ℕ) → read.text_token_by (Some kind) (at p kind ∷ ts) ≡ Some (s, us)
     → at p kind ∷ ts ≡ at p (k.Text s) ∷ us
 text_front (k.Text n) p ts us s h =
     let ends = both n s ts us h in
     ap (λ x. at p (k.Text x) ∷ ts) ends.0 ∙ ap (λ x. at p (k.Text s) ∷ x) ends.1
 text_front _ p ts us s h = nothing (s, us) h
 
-text_sound : (ts us : Tokens) (s : List ℕ) → read.a_text ts ≡ Some (s, us) → (p : Place) × (ts ≡ at p (k.Text s) ∷ us)
-unfolding read.a_text
+text_sound : (ts us : Tokens) (s : List ℕ) → read.text_token ts ≡ Some (s, us) → (p : Place) × (ts ≡ at p (k.Text s) ∷ us)
+unfolding read.text_token
 text_sound [] us s h = nothing (s, us) h
 text_sound (t ∷ ts) us s h = (t.place, text_front t.what t.place ts us s h)
 
@@ -69,10 +75,10 @@ Shown = Option (List ℕ) × List Expr
 abbrev Shows : Tokens → Shown → Tokens → Type 0
 Shows ts found us = IsShown ts found.0 found.1 us
 
-shown_text_sound : (p : Place) (ts us : Tokens) (found : Shown) → read.shown_text ts ≡ Some (found, us) → Shows (at p k.OpenParen ∷ ts) found us
-unfolding read.shown_text
+shown_text_sound : (p : Place) (ts us : Tokens) (found : Shown) → read.text_and_values ts ≡ Some (found, us) → Shows (at p k.OpenParen ∷ ts) found us
+unfolding read.text_and_values
 shown_text_sound p ts us found h =
-    let text = and_then_some (read.a_text ts) _ (found, us) h in
+    let text = and_then_some (read.text_token ts) _ (found, us) h in
     let it = text_sound ts text.1 text.0 text.2 in
     let values = and_then_some (cond (sees k.Comma text.1) (parts.separated expression) (λ x. Some ([], x)) (after k.Comma text.1)) _ (found, us) text.3 in
     let shut = expects k.CloseParen _ values.1 (found, us) refl values.3 in
@@ -87,8 +93,8 @@ shown_text_sound p ts us found h =
           (subst (λ x. IsShown (at p k.OpenParen ∷ at it.0 (k.Text text.0) ∷ at shut.0 k.CloseParen ∷ shut.1) (Some text.0) x shut.1) ends.0 text_alone)
     ]))
 
-shown_sound : (ts us : Tokens) (found : Shown) → read.shown ts ≡ Some (found, us) → Shows ts found us
-unfolding read.shown
+shown_sound : (ts us : Tokens) (found : Shown) → read.display_arguments ts ≡ Some (found, us) → Shows ts found us
+unfolding read.display_arguments
 shown_sound ts us found h =
     elim (eats k.OpenParen _ _ ts (found, us) refl h) [
       | inl open1 ↦
@@ -99,7 +105,8 @@ shown_sound ts us found h =
       | inr none ↦ same Shows none.1 (no_parentheses (unseen k.OpenParen ts none.0))
     ]
 
-number_front : (kind : TokenKind) (p q r : Place) (ts us : Tokens) (u : Unit {0}) → read.a_number_by (Some kind) (at p kind ∷ ts) ≡ Some (u, at q k.CloseParen ∷ us)
+number_front : (kind : TokenKind) (p q r : Place) (ts us : Tokens) (u : Unit {0})
+    → read.number_token_by (Some kind) (at p kind ∷ ts) ≡ Some (u, at q k.CloseParen ∷ us)
     → IsEnding (at r k.OpenParen ∷ at p kind ∷ ts) us
 number_front (k.Number width signed value free) p q r ts us u h =
     elim (if_parser (free == 0) _ _ (at p (k.Number width signed value free) ∷ ts) (Some (u, at q k.CloseParen ∷ us)) h) [
@@ -111,8 +118,8 @@ number_front (k.Number width signed value free) p q r ts us u h =
     ]
 number_front _ p q r ts us u h = nothing (u, at q k.CloseParen ∷ us) h
 
-number_sound : (q r : Place) (ts us : Tokens) (u : Unit {0}) → read.a_number ts ≡ Some (u, at q k.CloseParen ∷ us) → IsEnding (at r k.OpenParen ∷ ts) us
-unfolding read.a_number
+number_sound : (q r : Place) (ts us : Tokens) (u : Unit {0}) → read.number_token ts ≡ Some (u, at q k.CloseParen ∷ us) → IsEnding (at r k.OpenParen ∷ ts) us
+unfolding read.number_token
 number_sound q r [] us u h = nothing (u, at q k.CloseParen ∷ us) h
 number_sound q r (t ∷ ts) us u h = number_front t.what t.place q r ts us u h
 
@@ -128,12 +135,12 @@ expect_it kind ts us u known h =
       | inr none ↦ nothing (u, us) none.1
     ]
 
-ending_sound : (ts us : Tokens) (u : Unit {0}) → read.ending ts ≡ Some (u, us) → IsEnding ts us
-unfolding read.ending
+ending_sound : (ts us : Tokens) (u : Unit {0}) → read.stop_number ts ≡ Some (u, us) → IsEnding ts us
+unfolding read.stop_number
 ending_sound ts us u h =
     elim (eats k.OpenParen _ _ ts (u, us) refl h) [
       | inl open1 ↦
-          let number = and_then_some (read.a_number open1.1) _ (u, us) open1.3 in
+          let number = and_then_some (read.number_token open1.1) _ (u, us) open1.3 in
           let shut : (p : Place) × (number.1 ≡ at p k.CloseParen ∷ us) = expect_it k.CloseParen number.1 us u refl number.3 in
           subst (λ x. IsEnding x us) (sym open1.2)
           (number_sound shut.0 open1.0 open1.1 us number.0 (number.2 ∙ ap (λ x. Some (number.0, x)) shut.1))
@@ -147,7 +154,7 @@ unfolding read.block_name
 block_name_sound ts us u h =
     elim (eats k.Colon _ _ ts (u, us) refl h) [
       | inl colon ↦
-          let name = and_then_some (parts.a_name colon.1) _ (u, us) colon.3 in
+          let name = and_then_some (parts.name_token colon.1) _ (u, us) colon.3 in
           let it = name_sound colon.1 name.1 name.0 name.2 in
           let ends = both tt u name.1 us name.3 in
           subst (λ x. IsBlockName x us) (sym (colon.2 ∙ ap (λ x. at colon.0 k.Colon ∷ x) (it.1 ∙ ap (λ x. at it.0 (k.Name name.0) ∷ x) ends.1))) named
@@ -159,27 +166,27 @@ block_name_sound ts us u h =
 abbrev KindAt : Place → Tokens → StmtKind → Tokens → Type 0
 KindAt p ts what us = IsStmt ts (stmt p what) us
 
-show_sound : (p : Place) (name : List ℕ) (ts us : Tokens) (what : StmtKind) → name ≡ codes "$display" → read.show ts ≡ Some (what, us)
+show_sound : (p : Place) (name : List ℕ) (ts us : Tokens) (what : StmtKind) → name ≡ codes "$display" → read.display ts ≡ Some (what, us)
     → KindAt p (at p (k.System name) ∷ ts) what us
-unfolding read.show
+unfolding read.display
 show_sound p name ts us what known h =
-    let found = and_then_some (read.shown ts) _ (what, us) h in
+    let found = and_then_some (read.display_arguments ts) _ (what, us) h in
     let shut = expects k.Semicolon _ found.1 (what, us) refl found.3 in
     same (KindAt p) shut.3 (show known (onto Shows shut.2 (shown_sound ts found.1 found.0 found.2)))
 
-ended_sound : (ts us : Tokens) (what found : StmtKind) → read.ended what ts ≡ Some (found, us)
+ended_sound : (ts us : Tokens) (what found : StmtKind) → read.stopping what ts ≡ Some (found, us)
     → (q : Place) × IsEnding ts (at q k.Semicolon ∷ us) × (what ≡ found)
-unfolding read.ended read.closed
+unfolding read.stopping read.stop_number_and_semicolon
 ended_sound ts us what found h =
-    let outer = and_then_some (read.closed ts) _ (found, us) h in
-    let end = and_then_some (read.ending ts) _ (outer.0, outer.1) outer.2 in
+    let outer = and_then_some (read.stop_number_and_semicolon ts) _ (found, us) h in
+    let end = and_then_some (read.stop_number ts) _ (outer.0, outer.1) outer.2 in
     let shut = expect_it k.Semicolon end.1 outer.1 outer.0 refl end.3 in
     let ends = both what found outer.1 us outer.3 in
     (shut.0, subst (λ x. IsEnding ts x) (shut.1 ∙ ap (λ x. at shut.0 k.Semicolon ∷ x) ends.1) (ending_sound ts end.1 end.0 end.2), ends.0)
 
-system_sound : (p : Place) (name : List ℕ) (ts us : Tokens) (what : StmtKind) → read.system name ts ≡ Some (what, us)
+system_sound : (p : Place) (name : List ℕ) (ts us : Tokens) (what : StmtKind) → read.system_task name ts ≡ Some (what, us)
     → KindAt p (at p (k.System name) ∷ ts) what us
-unfolding read.system
+unfolding read.system_task
 system_sound p name ts us what h =
     elim (if_parser (bytes_eq name (codes "$display")) _ _ ts (Some (what, us)) h) [
       | inl one ↦ show_sound p name ts us what ((bytes_eq-Decides name (codes "$display")).0 one.0) one.1
@@ -209,18 +216,18 @@ later_at [] vs ws us q r target value one two = absurd (omega (arith, shorter_ta
 later_at (t ∷ ts) vs ws us q r target value one two = later one two
 
 assignment_sound : (ts us : Tokens) (what : StmtKind) → read.assignment ts ≡ Some (what, us) → KindAt (first_place ts) ts what us
-unfolding read.assignment
+unfolding read.assignment read.blocking
 assignment_sound ts us what h =
     let target = and_then_some (read.whole_target ts) _ (what, us) h in
     let one = whole_target_sound ts target.1 target.0 target.2 in
     elim (eats k.LessOrEqual _ _ target.1 (what, us) refl target.3) [
       | inl less ↦
-          let value = and_then_some (parts.until k.Semicolon less.1) _ (what, us) less.3 in
+          let value = and_then_some (parts.expression_before k.Semicolon less.1) _ (what, us) less.3 in
           let two = until_sound k.Semicolon less.1 value.1 value.0 refl value.2 in
           same (KindAt (first_place ts)) value.3 (later_at ts less.1 us value.1 less.0 two.0 target.0 value.0 (onto IsTarget less.2 one) two.1)
       | inr none ↦
           let equal = expects k.EqualSign _ target.1 (what, us) refl none.1 in
-          let value = and_then_some (parts.until k.Semicolon equal.1) _ (what, us) equal.3 in
+          let value = and_then_some (parts.expression_before k.Semicolon equal.1) _ (what, us) equal.3 in
           let two = until_sound k.Semicolon equal.1 value.1 value.0 refl value.2 in
           same (KindAt (first_place ts)) value.3 (set_at ts equal.1 us value.1 equal.0 two.0 target.0 value.0 (onto IsTarget equal.2 one) two.1)
     ]
@@ -272,14 +279,14 @@ module _ (statement : Parser Stmt) (each : (ts us : Tokens) (a : Stmt) → state
       same (KindAt p) (ap (λ q. Some (s.Block body.0 q, shut.1)) (sym place) ∙ shut.3)
       (block (block_name_sound ts name.1 name.0 name.2) (onto AreStmts shut.2 (subst (λ x. AreStmts name.1 x body.1) (sym list.1) list.2)))
 
-  choice_sound : (p : Place) (ts us : Tokens) (what : StmtKind) → read.choice statement ts ≡ Some (what, us) → KindAt p (at p k.If ∷ ts) what us
-  unfolding read.choice read.other
+  choice_sound : (p : Place) (ts us : Tokens) (what : StmtKind) → read.if_statement statement ts ≡ Some (what, us) → KindAt p (at p k.If ∷ ts) what us
+  unfolding read.if_statement read.else_part
   choice_sound p ts us what h =
-      let on = and_then_some (parts.test ts) _ (what, us) h in
+      let on = and_then_some (parts.condition ts) _ (what, us) h in
       let it = test_sound ts on.1 on.0 on.2 in
       let first = and_then_some (statement on.1) _ (what, us) on.3 in
       let one = each on.1 first.1 first.0 first.2 in
-      let second = and_then_some (read.other statement first.1) _ (what, us) first.3 in
+      let second = and_then_some (read.else_part statement first.1) _ (what, us) first.3 in
       before (KindAt p) (ap (λ x. at p k.If ∷ x) (sym it.3)) (same (KindAt p) second.3
       (elim (eats k.Else _ _ first.1 (second.0, second.1) refl second.2) [
         | inl more ↦
@@ -293,15 +300,15 @@ module _ (statement : Parser Stmt) (each : (ts us : Tokens) (a : Stmt) → state
             (if_alone it.4 (onto IsStmt ends.1 one) (unseen k.Else second.1 (ap (sees k.Else) (sym ends.1) ∙ none.0)))
       ]))
 
-  loop_sound : (p : Place) (ts us : Tokens) (what : StmtKind) → read.repetition statement ts ≡ Some (what, us) → KindAt p (at p k.For ∷ ts) what us
-  unfolding read.repetition
+  loop_sound : (p : Place) (ts us : Tokens) (what : StmtKind) → read.for_statement statement ts ≡ Some (what, us) → KindAt p (at p k.For ∷ ts) what us
+  unfolding read.for_statement
   loop_sound p ts us what h =
       let head = and_then_some (read.for_head ts) _ (what, us) h in
       let inner = and_then_some (statement head.1) _ (what, us) head.3 in
       same (KindAt p) inner.3 (for (for_head_sound ts head.1 head.0 head.2) (each head.1 inner.1 inner.0 inner.2))
 
   listed_at : (wild : Bool) (ts vs us : Tokens) (q : Place) (items : List Expr) (body : Stmt) → AreSeparated (IsCaseItem wild) ts items (at q k.Colon ∷ vs)
-      → IsStmt vs body us → IsArm wild ts (arm (first_place ts) items body) us
+      → IsStmt vs body us → IsArm wild ts (case_arm (first_place ts) items body) us
   listed_at wild [] vs us q items body list tree = absurd (omega (arith, shorter_items list))
   listed_at wild (t ∷ ts) vs us q items body list tree = listed list tree
 
@@ -322,7 +329,7 @@ module _ (statement : Parser Stmt) (each : (ts us : Tokens) (a : Stmt) → state
       let place : first_place ts ≡ word.0 = ap first_place word.2 in
       let inner = and_then_some (statement (after k.Colon word.1)) _ (a, us) word.3 in
       let tree = each (after k.Colon word.1) inner.1 inner.0 inner.2 in
-      same IsDefault (ap (λ q. Some (arm q [] inner.0, inner.1)) (sym place) ∙ inner.3)
+      same IsDefault (ap (λ q. Some (case_arm q [] inner.0, inner.1)) (sym place) ∙ inner.3)
       (before IsDefault (sym word.2) (elim (bool_cases (sees k.Colon word.1)) [
         | inl some ↦
             let it = sees_it k.Colon word.1 refl some in
@@ -335,8 +342,8 @@ module _ (statement : Parser Stmt) (each : (ts us : Tokens) (a : Stmt) → state
   arm_by wild true ts us a h = default_sound ts us a h
   arm_by wild false ts us a h = listed_sound wild ts us a h
 
-  one_arm_sound : (wild : Bool) (ts us : Tokens) (a : CaseArm) → read.one_arm statement wild ts ≡ Some (a, us) → Arm wild (sees k.Default ts) ts a us
-  unfolding read.one_arm
+  one_arm_sound : (wild : Bool) (ts us : Tokens) (a : CaseArm) → read.arm_or_default statement wild ts ≡ Some (a, us) → Arm wild (sees k.Default ts) ts a us
+  unfolding read.arm_or_default
   one_arm_sound wild ts us a h = arm_by wild (sees k.Default ts) ts us a h
 
   arms_sound : (wild : Bool) (t : ℕ) (seen : Bool) (found : List CaseArm) (ts us : Tokens) (all : List CaseArm)
@@ -347,7 +354,7 @@ module _ (statement : Parser Stmt) (each : (ts us : Tokens) (a : Stmt) → state
       elim (if_some (sees k.Default ts && seen) _ _ _ h) [
         | inl two ↦ nothing (all, us) two.1
         | inr fine ↦
-            let first = and_then_some (read.one_arm statement wild ts) _ (all, us) fine.1 in
+            let first = and_then_some (read.arm_or_default statement wild ts) _ (all, us) fine.1 in
             let one = one_arm_sound wild ts first.1 first.0 first.2 in
             elim (if_some (sees k.EndCase first.1) _ _ _ first.3) [
               | inl halt ↦
@@ -362,12 +369,12 @@ module _ (statement : Parser Stmt) (each : (ts us : Tokens) (a : Stmt) → state
             ]
       ]
 
-  case_sound : (wild : Bool) (ts us : Tokens) (what : StmtKind) → read.case statement wild ts ≡ Some (what, us)
+  case_sound : (wild : Bool) (ts us : Tokens) (what : StmtKind) → read.case_statement statement wild ts ≡ Some (what, us)
       → (q r o : Place) × (inside vs : Tokens) × (on : Expr) × (arms : List CaseArm) × (ts ≡ at q k.OpenParen ∷ inside)
       × IsExpr inside on (at r k.CloseParen ∷ vs) × AreArms wild false vs arms (at o k.EndCase ∷ us) × (s.Case wild on arms ≡ what)
-  unfolding read.case read.arms
+  unfolding read.case_statement read.arms
   case_sound wild ts us what h =
-      let on = and_then_some (parts.test ts) _ (what, us) h in
+      let on = and_then_some (parts.condition ts) _ (what, us) h in
       let it = test_sound ts on.1 on.0 on.2 in
       let arms = and_then_some (read.arms statement wild on.1) _ (what, us) on.3 in
       let list = arms_sound wild (length on.1) false [] on.1 arms.1 arms.0 arms.2 in

@@ -1,10 +1,6 @@
-//! Reading tokens from left to right, which is exact.
+//! Reading tokens from left to right finds exactly what the grammar says.
 #![tactic(auto)]
 
-mod fault;
-mod for_head;
 mod laws;
 
-pub use fault::ReadFault;
-pub use for_head::ForHead;
 pub use laws::{expressions_are_exact, files_are_exact, statements_are_exact};

@@ -1,7 +1,7 @@
 ghost use Rattle.std.specs.Prelude.{◌≡◌};
 ghost use Rattle.vlog_parser.specs.declared.fault.SyntaxFault.TheVariants.{NoMemory as wants_memory};
 
-use cov_port::{NoMemory, Place};
+use cov_types::{NoMemory, Place};
 use thiserror::Error;
 
 /// Why there is no tree.

@@ -1,26 +1,10 @@
-//! Trees from tokens.
+//! The syntax tree of Verilog tokens.
 #![tactic(auto)]
 
-mod connection;
-mod copy;
-mod cursor;
-mod declared;
-mod expression;
 mod fault;
-mod header;
-mod item;
-mod item_part;
-mod list;
-mod mark;
 mod module;
-mod part;
-mod plain_item;
-mod port;
-mod sending;
-mod simple;
-mod statement;
-mod whole;
-mod word;
+mod source_text;
+mod threads;
 
 pub use fault::SyntaxFault;
-pub use whole::{parse, parse_expression, parse_statement};
+pub use source_text::parse;

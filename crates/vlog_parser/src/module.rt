@@ -1,26 +1,25 @@
 //! Modules.
 
-ghost use Rattle.vlog_laws.specs.ReadModules as spec;
-ghost use Rattle.vlog_laws.specs.Reading.{Reads};
+ghost use Rattle.vlog_reading.specs.ReadModules as spec;
+ghost use Rattle.vlog_reading.specs.Reading.{Reads};
 
-use crate::cursor::Cursor;
-use crate::header::header;
-use crate::item::whole_items;
-use crate::part::a_name;
-use crate::port::port_list;
-use crate::word::Word;
-use cov_port::Rows;
+use cov_types::Rows;
 use std::alloc::Global;
-use vlog_laws::ReadFault;
+use vlog_cursor::{Cursor, Word};
+use vlog_expressions::name_token;
+use vlog_headers::{header, port_list};
+use vlog_items::whole_items;
+use vlog_reading::ReadFault;
 use vlog_tree::Module;
 
-#[tactic(auto, unfolding(vlog_laws::specs::ReadModules::one_module))]
+/// A module, from its word `module` on.
+#[tactic(auto, unfolding(vlog_reading::specs::ReadModules::one_module))]
 fn one_module(alloc: Global, tokens: &mut Cursor<'_>) -> Result<Module, ReadFault>
     ensures { Reads (spec.one_module tokens.old) result tokens.new }
 {
     let place = tokens.place();
     tokens.expect(Word::Module)?;
-    let name = a_name(alloc, tokens)?;
+    let name = name_token(alloc, tokens)?;
     let params = header(alloc, tokens)?;
     let ports = port_list(alloc, tokens)?;
     tokens.expect(Word::Semicolon)?;
@@ -38,7 +37,7 @@ fn one_module(alloc: Global, tokens: &mut Cursor<'_>) -> Result<Module, ReadFaul
 }
 
 /// All modules up to the end of the tokens.
-#[tactic(auto, unfolding(vlog_laws::specs::ReadModules::modules, vlog_laws::specs::ReadModules::modules_from))]
+#[tactic(auto, unfolding(vlog_reading::specs::ReadModules::modules, vlog_reading::specs::ReadModules::modules_from))]
 pub fn modules(alloc: Global, tokens: &mut Cursor<'_>) -> Result<Rows<Module>, ReadFault>
     ensures { Reads (spec.modules tokens.old) result tokens.new }
 {

@@ -1,5 +1,5 @@
 use crate::operator::{BinaryOp, SystemCall, UnaryOp};
-use cov_port::ByteText;
+use cov_types::ByteText;
 use sqlite_items::{Boxed, Items};
 
 /// The part of a name that is read or written (IEEE 1364-2005, bit-selects and part-selects).

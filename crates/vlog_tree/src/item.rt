@@ -1,6 +1,7 @@
 use crate::expression::{Expr, RangeExpr};
+use crate::shared::Shared;
 use crate::statement::Stmt;
-use cov_port::{ByteText, Place, Rows};
+use cov_types::{ByteText, Place, Rows};
 use sqlite_items::Items;
 
 /// A declared name and where it stands (IEEE 1364-2005, declarations).
@@ -33,8 +34,11 @@ pub enum ParamForm {
     Plain,
     /// `integer`
     Integer,
-    /// A range, and whether it is `signed`.
-    Ranged { signed: bool, range: RangeExpr },
+    /// A range, and whether it is `signed`. The names alone after a name of a header share it.
+    Ranged {
+        signed: bool,
+        range: Shared<RangeExpr>,
+    },
 }
 
 /// A parameter and its value (IEEE 1364-2005, module parameters).

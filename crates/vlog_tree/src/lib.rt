@@ -5,6 +5,7 @@ mod expression;
 mod item;
 mod module;
 mod operator;
+mod shared;
 mod statement;
 
 pub use expression::{Expr, RangeExpr, Select};
@@ -14,4 +15,5 @@ pub use item::{
 };
 pub use module::{Module, Port, PortKind, SourceFile};
 pub use operator::{BinaryOp, SystemCall, UnaryOp};
+pub use shared::Shared;
 pub use statement::{CaseArm, Stmt, StmtKind};

@@ -1,6 +1,7 @@
 use crate::expression::RangeExpr;
 use crate::item::Item;
-use cov_port::{ByteText, Place, Pragma, Rows};
+use crate::shared::Shared;
+use cov_types::{ByteText, Place, Pragma, Rows};
 
 /// What a port is (IEEE 1364-2005, port declarations).
 #[derive(Clone, Copy, Debug, PartialEq, Eq)]
@@ -16,13 +17,13 @@ pub enum PortKind {
 /// A port of a module (IEEE 1364-2005, list of port declarations).
 ///
 /// `place` is that of its first token. A port that is a name alone has the kind, sign and range of
-/// the port before it.
+/// the port before it, and shares that range with it.
 #[derive(Drop)]
 pub struct Port {
     pub place: Place,
     pub kind: PortKind,
     pub signed: bool,
-    pub range: Option<RangeExpr>,
+    pub range: Option<Shared<RangeExpr>>,
     pub name_place: Place,
     pub name: ByteText,
 }

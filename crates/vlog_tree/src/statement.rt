@@ -1,5 +1,5 @@
 use crate::expression::Expr;
-use cov_port::{ByteText, Place, Rows};
+use cov_types::{ByteText, Place, Rows};
 use sqlite_items::{Boxed, Items};
 
 /// A statement and the place of its first token (IEEE 1364-2005, procedural statements).

@@ -1,7 +1,7 @@
 use Rattle.std.proofs.Common.{arith, rules}
 use Rattle.std.proofs.lemmas.Grind.{common_steps}
-use Rattle.vlog_laws.specs.ReadModules.{modules_from}
-use Rattle.vlog_parser.proofs.Turns.{one_more}
+use Rattle.vlog_reading.specs.ReadModules.{modules_from}
+use Rattle.vlog_cursor.proofs.Turns.{one_more}
 use Rattle.vlog_parser.proofs.module.modules.Goals as goal
 
 pub loop-turn-preserved : goal.loop-turn-preserved

@@ -1,5 +1,5 @@
 use Rattle.std.proofs.Common.{◌≡◌, ◌-◌}
-use Rattle.vlog_laws.specs.ReadModules.{modules, modules_from}
+use Rattle.vlog_reading.specs.ReadModules.{modules, modules_from}
 use Rattle.vlog_parser.proofs.module.modules.Given as goal
 
 abbrev pub invariant-loop-turn : goal.invariant-loop-turn

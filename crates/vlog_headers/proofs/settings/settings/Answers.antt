@@ -1,0 +1,12 @@
+use Rattle.std.proofs.Common.{arith, rules}
+use Rattle.std.proofs.lemmas.Grind.{common_steps}
+use Rattle.vlog_reading.specs.ReadModules.{settings_from}
+use Rattle.vlog_cursor.proofs.Turns.{one_more}
+use Rattle.vlog_headers.proofs.settings.settings.Goals as goal
+
+pub loop-turn-preserved : goal.loop-turn-preserved
+unfolding settings_from
+loop-turn-preserved c =
+    let e = one_more (λ n. settings_from n c.loop-turn.before c.loop-turn.found c.loop-turn.tokens)
+    _ c.loop-turn._turn c.loop-turn-test.true c.loop-turn.invariant in
+    first_of (search rules, grind (arith, common_steps))
