@@ -1,10 +1,2 @@
-pub mod AgreeLemmas
-pub mod CheckLemmas
-pub mod ContinuingLemmas
-pub mod DesignLemmas
-pub mod LeavesLemmas
-pub mod MergeLemmas
-pub mod NamesLemmas
+pub mod LawLemmas
 pub mod ProgramLemmas
-pub mod RefusalLemmas
-pub mod UnreadLemmas

@@ -1,33 +1,78 @@
 -- What words leave, by their task.
-use Rattle.std.proofs.Common.{◌≡◌, ℕ, List, refl, subst, Option, None, Some, Result, Ok, Err, arith}
-use Rattle.std.specs.Prelude.{IfSome, OnOk, OnErr}
+use Rattle.std.proofs.Common.{◌≡◌, ℕ, false, List, refl, sym, ap, subst, Option, None, Some, Result, Ok, Err, arith}
+use Rattle.std.specs.Prelude.{OnOk, OnErr}
 use Rattle.cov_port.specs.Causes.{Both, HasCause}
 use Rattle.cov_port.specs.Files.{Names, FileFaults}
 use Rattle.cov_port.specs.Sinks.{PutsAll, PutsPart}
-use Rattle.cov_program.specs.Answer.{refused}
-use Rattle.cov_program.specs.Answers.{IsAnswer, IsTaskAnswer}
-use Rattle.cov_program.specs.Faults.{IsSaid, Leaves, World, world}
-use Rattle.cov_program.specs.Lines.{error_line}
+use Rattle.command_ending.specs.Answer.{refused_with}
+use Rattle.command_ending.specs.Ending.{line_at, status_at}
+use Rattle.command_ending.specs.ErrorLines.{words_line}
+use Rattle.command_ending.specs.Leaves.{IsSaid, Leaves}
+use Rattle.command_ending.specs.Promise.{Promise, IsLineOf}
+use Rattle.command_ending.specs.World.{World, world}
+use Rattle.command_ending.specs.declared.status.Status.{Status}
+use Rattle.command_ending.specs.declared.status.Status.TheVariants.{BadWords, NoMemory}
+use Rattle.command_ending.specs.Stops.{wants_memory}
+use Rattle.command_ending.specs.declared.ending.Ending.TheVariants as ending
+use Rattle.command_ending.proofs.PutLemmas.{always_told, if_told, puts_all_part, puts_none, stores_none}
+use Rattle.command_ending.proofs.StopLemmas.{stops_leave}
+use Rattle.command_check.specs.CheckPromise.{CheckRefuses, too_many, too_long, in_file, DesignRefuses, at_place, past_limit}
+use Rattle.command_cover.specs.MergePromise.{MergeRefuses, FileRefuses}
+use Rattle.command_cover.specs.MergePromise as merge
+use Rattle.cov_program.specs.Promises.{no_promise, promise_of, task_promise}
 use Rattle.cov_program.specs.Words.{Task, task_of}
-use Rattle.cov_program.specs.declared.status.Status.{Status}
-use Rattle.cov_program.specs.declared.status.Status.TheVariants.{BadWords}
-use Rattle.cov_program.proofs.LeavesLemmas.{leaves_refused, puts_all_part}
 
--- the answers to words are those to their task
+-- what words promise is what their task does
 pub leaves_task : (words : List (List ℕ)) (task : Option Task) (said : List ℕ) (old new : World) (ended : Status) → task ≡ task_of words
-    → Leaves (λ held. IsTaskAnswer held task) said old new ended → Leaves (IsAnswer words) said old new ended
-leaves_task words task said old new ended same is = subst (λ (t : Option Task). Leaves (λ held. IsTaskAnswer held t) said old new ended) same is
-
-no_task : (old : Option Names) → IfSome old (λ names. IsTaskAnswer names None (refused BadWords))
-no_task None = tt
-no_task (Some names) = refl
+    → Leaves (task_promise task) said old new ended → Leaves (promise_of words) said old new ended
+leaves_task words task said old new ended same is = subst (λ (t : Option Task). Leaves (task_promise t) said old new ended) same is
 
 -- words that ask for nothing
 pub leaves_words : (words : List (List ℕ)) (old : Option Names) (faults : FileFaults) (written : Option (List ℕ)) (put_faults : ℕ) → None ≡ task_of words
-    → Leaves (IsAnswer words) (error_line BadWords) (world old faults written put_faults) (world old faults written put_faults) BadWords
-leaves_words words old faults written put_faults none =
-    leaves_task words None (error_line BadWords) _ _ BadWords none
-    (leaves_refused (λ held. IsTaskAnswer held None) BadWords (error_line BadWords) old old faults faults written put_faults refl refl (λ never. absurd (cc)) (λ never. absurd (cc)) refl (no_task old))
+    → Leaves (promise_of words) words_line (world old faults written put_faults) (world old faults written put_faults) BadWords
+leaves_words words old faults written put_faults none = leaves_task words None words_line _ _ BadWords none (record {
+  answer = λ fault want. always_told old _ (λ names. (
+    refused_with BadWords words_line,
+    refl,
+    record { status = refl; stores = stores_none old old refl; output = puts_none written written refl; line = refl },
+  ));
+  unharmed = λ other. record { files = refl; out = refl };
+  fault = λ never. absurd (cc);
+  untouched = λ first. record { held = refl; written = refl };
+  line = (refl, refl);
+})
+
+-- names for which memory is wanted
+pub leaves_wanting : (p : Promise) (old : Option Names) (faults : FileFaults) (written : Option (List ℕ)) (put_faults : ℕ) → p.prints_early ≡ false
+    → Leaves p (line_at ending.NoMemory) (world old faults written put_faults) (world old faults written put_faults) (status_at ending.NoMemory)
+leaves_wanting p old faults written put_faults late = stops_leave p old old faults faults written put_faults ending.NoMemory late refl (wants_memory refl)
+
+design_words : (name : List ℕ) (status : Status) (line : List ℕ) → DesignRefuses name status line → status ≡ BadWords → ⊥
+design_words name status line (at_place place code from is) same = absurd (cc)
+design_words name status line (past_limit limit is) same = absurd (cc)
+
+check_words : (names : List (List ℕ)) (status : Status) (line : List ℕ) → CheckRefuses names status line → status ≡ BadWords → ⊥
+check_words names status line (too_many many) same = absurd (cc)
+check_words names status line (too_long few) same = absurd (cc)
+check_words names status line (in_file name s l few there is) same = design_words name status line is same
+
+file_words : (name : List ℕ) (status : Status) (line : List ℕ) → FileRefuses name status line → status ≡ BadWords → ⊥
+file_words name status line (merge.bad_line n code from is) same = absurd (cc)
+file_words name status line (merge.past_limit limit is) same = absurd (cc)
+
+merge_words : (names : List (List ℕ)) (status : Status) (line : List ℕ) → MergeRefuses names status line → status ≡ BadWords → ⊥
+merge_words names status line (merge.too_many many) same = absurd (cc)
+merge_words names status line (merge.in_file name s l few there is) same = file_words name status line is same
+
+not_words : (R : Status → List ℕ → Type 0) (ended : Status) (line : List ℕ) → ((l : List ℕ) → R BadWords l → ⊥) → IsLineOf R ended line → ended ≡ BadWords → ⊥
+not_words R ended line none is same = none line (subst (λ (s : Status). IsLineOf R s line) same is)
+
+-- a check or a merge doesn't end for bad words
+pub check_not_words : (names : List (List ℕ)) (ended : Status) (line : List ℕ) → IsLineOf (CheckRefuses names) ended line → ended ≡ BadWords → ⊥
+check_not_words names ended line is same = not_words (CheckRefuses names) ended line (λ l may. check_words names BadWords l may refl) is same
+
+pub merge_not_words : (names : List (List ℕ)) (ended : Status) (line : List ℕ) → IsLineOf (MergeRefuses names) ended line → ended ≡ BadWords → ⊥
+merge_not_words names ended line is same = not_words (MergeRefuses names) ended line (λ l may. merge_words names BadWords l may refl) is same
 
 -- a line that was put, or failed to be
 pub said : {E : Type 0} (line : List ℕ) (before now : ℕ) (old new : Option (List ℕ)) (result : Result Unit E) → OnOk result (Both (PutsAll line) old new)

@@ -1,13 +1,4 @@
-pub mod Answer
-pub mod Answers
-pub mod CheckAnswer
-pub mod Checking
-pub mod Continuing
-pub mod Ending
-pub mod Endings
-pub mod Ends
-pub mod Faults
-pub mod Lines
-pub mod MergeAnswer
+pub mod Laws
+pub mod Promises
 pub mod Tasks
 pub mod Words

@@ -1,6 +1,7 @@
 -- What contracts see of a borrowed task.
 use Rattle.std.specs.Prelude.{Option, None, Some}
-use Rattle.cov_program.specs.Words.{Task as Asked, checking, merging, merge_to}
+use Rattle.command_cover.specs.Merge.{merge_to}
+use Rattle.cov_program.specs.Words.{Task as Asked, checking, merging}
 use Rattle.cov_program.specs.declared.task.Task.{Task}
 use Rattle.cov_program.specs.declared.task.Task.TheVariants.{Check, Merge}
 

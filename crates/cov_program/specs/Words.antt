@@ -1,11 +1,7 @@
 -- What the words of a command line ask for, among the commands that are built (docs/commands.md, "Words").
 use Rattle.std.specs.Prelude.{ℕ, ◌&&◌, Bool, not, is_none, List, Option, None, Some, option_and_then, if◌then◌else◌}
 use Rattle.cov_words.specs.Command.{Command, check, build, sim, cover, selftest, Covering, command_of}
-
--- a merge: the name that is stored, and the files that are read, in order
-pub record Merging : Type 0 where
-  pub out : List ℕ
-  pub files : List (List ℕ)
+use Rattle.command_cover.specs.Merge.{Merging, merge_to}
 
 -- what the program does: a check of these files, or a merge
 pub data Task : Type 0 where
@@ -16,9 +12,6 @@ pub data Task : Type 0 where
 abbrev pub only_writes : Covering → Bool
 only_writes asked =
     is_none asked.write_info && not asked.rank && is_none asked.annotate && is_none asked.annotate_min && is_none asked.filter_type
-
-abbrev pub merge_to : List ℕ → List (List ℕ) → Merging
-merge_to out files = record { out = out; files = files }
 
 -- a merge, if there is a name to store it at
 abbrev pub merge_of : List (List ℕ) → Option (List ℕ) → Option Task

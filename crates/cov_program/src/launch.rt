@@ -1,5 +1,7 @@
+ghost use Rattle.std.specs.Prelude.{◌≡◌, ◌⊎◌, IfErr};
+
 use crate::program::vcov;
-use crate::status::Status;
+use command_ending::{Ending, Status};
 use cov_port::{RealFiles, RealSink, put_all};
 use std::alloc::Global;
 use std::env::Env;
@@ -25,24 +27,26 @@ where
             let mut out = RealSink::new(out);
             vcov(rt, alloc, &words, &mut files, &mut out, &mut err)
         }
-        Err(status) => {
-            let _ = put_all(&mut err, status.line());
-            status
+        Err(ending) => {
+            let _ = put_all(&mut err, ending.line());
+            ending.status()
         }
     }
 }
 
 /// The words after the program's name. Words that aren't UTF-8 are bad ones.
-fn given_words(rt: &(impl Env + AllocGlobal), alloc: Global) -> Result<Vec<String>, Status> {
+fn given_words(rt: &(impl Env + AllocGlobal), alloc: Global) -> Result<Vec<String>, Ending>
+    ensures { IfErr result (λ ending. (ending ≡ Ending.NoMemory) ⊎ (ending ≡ Ending.BadWords)) }
+{
     let given = match env::args(rt) {
         Ok(given) => given,
-        Err(error) if error.kind() == ErrorKind::OutOfMemory => return Err(Status::NoMemory),
-        Err(_) => return Err(Status::BadWords),
+        Err(error) if error.kind() == ErrorKind::OutOfMemory => return Err(Ending::NoMemory),
+        Err(_) => return Err(Ending::BadWords),
     };
     let mut words = Vec::new(alloc);
     for word in given.skip(1) {
         if words.push(word).is_err() {
-            return Err(Status::NoMemory);
+            return Err(Ending::NoMemory);
         }
     }
     Ok(words)

@@ -1,17 +1,22 @@
 //! Laws of the definitions.
 
-ghost use Rattle.std.specs.Prelude.{ℕ, List};
-ghost use Rattle.cov_port.specs.Files.{Names};
-ghost use Rattle.cov_program.specs.Answer.{Answer};
-ghost use Rattle.cov_program.specs.Answers.{Agree, IsAnswer};
+ghost use Rattle.cov_program.specs.Laws.{AnswersAgree, IsDoneUnlessWrong};
 
-use vlog_laws::files_are_exact;
-use vlog_lexer::one_reading;
+use command_check::{check_has_one_answer, check_is_done_unless_wrong};
+use command_cover::{merge_has_one_answer, merge_is_done_unless_wrong};
 
 /// Words have one answer at most, but for the place where tokens are outside the grammar.
 pub fn answers_agree()
-    ensures { (words : List (List ℕ)) (held : Names) (a b : Answer) → IsAnswer words held a → IsAnswer words held b → Agree a b }
+    ensures { AnswersAgree }
 {
-    one_reading();
-    files_are_exact();
+    check_has_one_answer();
+    merge_has_one_answer();
+}
+
+/// A call with which nothing is wrong is done, unless memory is wanted.
+pub fn done_unless_wrong()
+    ensures { IsDoneUnlessWrong }
+{
+    check_is_done_unless_wrong();
+    merge_is_done_unless_wrong();
 }

@@ -1,18 +1,12 @@
-//! The program: what each command does, and how it ends.
+//! The program: the words of a command line, the command that they ask for, and what all commands leave.
 #![tactic(auto)]
 
-mod check;
-mod cover;
-mod ending;
-mod inputs;
 mod launch;
 mod law;
-mod lines;
 mod program;
-mod status;
 mod task;
 
+pub use command_ending::Status;
 pub use launch::run_program;
-pub use law::answers_agree;
+pub use law::{answers_agree, done_unless_wrong};
 pub use program::vcov;
-pub use status::Status;

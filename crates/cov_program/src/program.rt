@@ -1,16 +1,17 @@
-ghost use Rattle.std.specs.Prelude.{◌≡◌, ◌↔◌, ℕ, List, Option, None, map, string_bytes};
-ghost use Rattle.cov_program.specs.Answers.{IsAnswer};
-ghost use Rattle.cov_program.specs.CheckAnswer.{IsCheckAnswer};
-ghost use Rattle.cov_program.specs.Endings.{line_at, status_at};
-ghost use Rattle.cov_program.specs.Faults.{IsSaid, Leaves, world};
-ghost use Rattle.cov_program.specs.MergeAnswer.{merge_answer};
-ghost use Rattle.cov_program.specs.Words.{merge_to, task_of};
+ghost use Rattle.std.specs.Prelude.{◌≡◌, ◌↔◌, ℕ, List, None, map, string_bytes};
+ghost use Rattle.command_check.specs.CheckPromise.{check_promise};
+ghost use Rattle.command_cover.specs.Merge.{merge_to};
+ghost use Rattle.command_cover.specs.MergePromise.{merge_promise};
+ghost use Rattle.command_ending.specs.Ending.{line_at, status_at};
+ghost use Rattle.command_ending.specs.Leaves.{IsSaid, Leaves};
+ghost use Rattle.command_ending.specs.World.{world};
+ghost use Rattle.cov_program.specs.Promises.{promise_of};
+ghost use Rattle.cov_program.specs.Words.{task_of};
 
-use crate::check::check;
-use crate::cover::merge;
-use crate::ending::Ending;
-use crate::status::Status;
 use crate::task::{Task, task_of};
+use command_check::check_files;
+use command_cover::merge_files;
+use command_ending::{Ending, Status};
 use cov_port::{Files, Sink, put_all};
 use cov_words::Names;
 use std::alloc::Global;
@@ -32,7 +33,7 @@ pub fn vcov<R: Threads + Sync, F: Files, O: Sink, E: Sink>(
 
     // An answer to the words is what is left, or, where a call failed, what stands then; and the line that goes with it.
     ensures outcome { (line : List ℕ)
-        × Leaves (IsAnswer (map string_bytes words.now.items)) line
+        × Leaves (promise_of (map string_bytes words.now.items)) line
         (world (F.held files.old) (F.faults files.old) (O.written out.old) (O.faults out.old))
         (world (F.held files.new) (F.faults files.new) (O.written out.new) (O.faults out.new)) result
         × IsSaid line (E.faults err.old) (E.faults err.new) (E.written err.old) (E.written err.new) }
@@ -46,14 +47,14 @@ pub fn vcov<R: Threads + Sync, F: Files, O: Sink, E: Sink>(
 /// Does what the words ask for.
 fn run<F: Files, O: Sink>(alloc: Global, words: &[String], files: &mut F, out: &mut O) -> Ending
     ensures words { (status_at result ≡ Status.BadWords) ↔ (task_of (map string_bytes words.now) ≡ None) }
-    ensures leaves { Leaves (IsAnswer (map string_bytes words.now)) (line_at result)
+    ensures leaves { Leaves (promise_of (map string_bytes words.now)) (line_at result)
         (world (F.held files.old) (F.faults files.old) (O.written out.old) (O.faults out.old))
         (world (F.held files.new) (F.faults files.new) (O.written out.new) (O.faults out.new)) (status_at result) }
 {
     match task_of(words) {
         Some(Task::Check(names)) => run_check(alloc, files, out, &names),
-        Some(Task::Merge(name, names)) => run_merge(alloc, files, name, &names),
-        None => Ending::Plain(Status::BadWords),
+        Some(Task::Merge(name, names)) => run_merge(alloc, files, out, name, &names),
+        None => Ending::BadWords,
     }
 }
 
@@ -63,26 +64,31 @@ fn run_check<F: Files, O: Sink>(
     out: &mut O,
     names: &Names<'_>,
 ) -> Ending
-    ensures leaves { Leaves (λ held. IsCheckAnswer held names.now) (line_at result)
+    ensures leaves { Leaves (check_promise names.now) (line_at result)
         (world (F.held files.old) (F.faults files.old) (O.written out.old) (O.faults out.old))
         (world (F.held files.new) (F.faults files.new) (O.written out.new) (O.faults out.new)) (status_at result) }
     ensures words { status_at result ≡ Status.BadWords → ⊥ }
 {
     match names.collect(alloc) {
-        Ok(names) => check(alloc, files, out, names.as_slice()),
-        Err(_) => Ending::Plain(Status::NoMemory),
+        Ok(names) => check_files(alloc, files, out, names.as_slice()),
+        Err(_) => Ending::NoMemory,
     }
 }
 
-fn run_merge<F: Files>(alloc: Global, files: &mut F, out: &str, names: &Names<'_>) -> Ending
-    ensures leaves { (written : Option (List ℕ)) (put_faults : ℕ)
-        → Leaves (λ held answer. answer ≡ merge_answer held (merge_to out.now names.now)) (line_at result)
-        (world (F.held files.old) (F.faults files.old) written put_faults)
-        (world (F.held files.new) (F.faults files.new) written put_faults) (status_at result) }
+fn run_merge<F: Files, O: Sink>(
+    alloc: Global,
+    files: &mut F,
+    out: &mut O,
+    name: &str,
+    names: &Names<'_>,
+) -> Ending
+    ensures leaves { Leaves (merge_promise (merge_to name.now names.now)) (line_at result)
+        (world (F.held files.old) (F.faults files.old) (O.written out.old) (O.faults out.old))
+        (world (F.held files.new) (F.faults files.new) (O.written out.new) (O.faults out.new)) (status_at result) }
     ensures words { status_at result ≡ Status.BadWords → ⊥ }
 {
     match names.collect(alloc) {
-        Ok(names) => Ending::Plain(merge(alloc, files, out, names.as_slice())),
-        Err(_) => Ending::Plain(Status::NoMemory),
+        Ok(names) => merge_files(alloc, files, out, name, names.as_slice()),
+        Err(_) => Ending::NoMemory,
     }
 }

@@ -1,6 +1,7 @@
 use Rattle.std.proofs.Common.{map, string_bytes, sym, ap, ◌∙◌, Some}
+use Rattle.command_cover.specs.Merge.{merge_to}
 use Rattle.cov_program.specs.Tasks.{seen}
-use Rattle.cov_program.specs.Words.{checking, merging, merge_to}
+use Rattle.cov_program.specs.Words.{checking, merging}
 use Rattle.cov_program.specs.declared.task.Task.{Task}
 use Rattle.cov_program.proofs.ProgramLemmas.{leaves_task, leaves_words}
 use Rattle.cov_program.proofs.program.run.Goals as goal
@@ -13,7 +14,7 @@ returns-in-Some-Check-clause-leaves g c =
 pub returns-in-Some-Merge-clause-leaves : goal.returns-in-Some-Merge-clause-leaves
 returns-in-Some-Merge-clause-leaves g c =
     leaves_task (map string_bytes c.args.words.now) (Some (merging (merge_to c.in-Some-Merge.name.now c.in-Some-Merge.names))) _ _ _ _
-    (ap (λ (t : Task). Some (seen t)) (sym c.in-Some-Merge.field-0-is) ∙ c.in-Some-Merge.ensures) (c.run_merge.ensures.leaves (g.O.Sink.written c.args.out.now) (g.O.Sink.faults c.args.out.now))
+    (ap (λ (t : Task). Some (seen t)) (sym c.in-Some-Merge.field-0-is) ∙ c.in-Some-Merge.ensures) c.run_merge.ensures.leaves
 
 pub returns-in-None-clause-leaves : goal.returns-in-None-clause-leaves
 returns-in-None-clause-leaves g c =

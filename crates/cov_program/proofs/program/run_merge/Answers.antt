@@ -1,15 +1,16 @@
 use Rattle.std.proofs.Common.{refl}
-use Rattle.cov_program.specs.Words.{merge_to}
-use Rattle.cov_program.proofs.LeavesLemmas.{leaves_wanting}
-use Rattle.cov_program.proofs.MergeLemmas.{merge_leaves}
+use Rattle.command_ending.specs.Ending.{line_at}
+use Rattle.command_cover.specs.Merge.{merge_to}
+use Rattle.command_cover.specs.MergePromise.{merge_promise}
+use Rattle.cov_program.proofs.ProgramLemmas.{leaves_wanting, merge_not_words}
 use Rattle.cov_program.proofs.program.run_merge.Goals as goal
 
 pub returns-in-Ok-clause-leaves : goal.returns-in-Ok-clause-leaves
-returns-in-Ok-clause-leaves g c =
-    let names = rw (c.as_slice.ensures.value, c.in-Ok.ensures) at c.merge.ensures.ends in
-    λ written put_faults. merge_leaves (merge_to c.args.out.now c.args.names.now) (g.F.Files.held c.args.files.now) (g.F.Files.held c.merge.new.files)
-    (g.F.Files.faults c.args.files.now) (g.F.Files.faults c.merge.new.files) written put_faults c.merge.result c.merge.ensures.kind names
+returns-in-Ok-clause-leaves g c = rw (c.as_slice.ensures.value, c.in-Ok.ensures) at c.merge_files.ensures.leaves
+
+pub returns-in-Ok-clause-words : goal.returns-in-Ok-clause-words
+returns-in-Ok-clause-words g c = merge_not_words _ _ (line_at c.merge_files.result) c.merge_files.ensures.leaves.line
 
 pub returns-in-Err-clause-leaves : goal.returns-in-Err-clause-leaves
 returns-in-Err-clause-leaves g c =
-    λ written put_faults. leaves_wanting _ (g.F.Files.held c.args.files.now) (g.F.Files.held c.args.files.now) (g.F.Files.faults c.args.files.now) (g.F.Files.faults c.args.files.now) written put_faults refl refl
+    leaves_wanting (merge_promise (merge_to c.args.name.now c.args.names.now)) (g.F.Files.held c.args.files.now) (g.F.Files.faults c.args.files.now) (g.O.Sink.written c.args.out.now) (g.O.Sink.faults c.args.out.now) refl

@@ -1,4 +1,4 @@
-use Rattle.cov_program.specs.Endings.{line_at}
+use Rattle.command_ending.specs.Ending.{line_at}
 use Rattle.cov_program.proofs.ProgramLemmas.{said}
 use Rattle.cov_program.proofs.program.vcov.Goals as goal
 

@@ -1,0 +1,5 @@
+pub mod CheckAnswer
+pub mod CheckPromise
+pub mod Agree
+pub mod Laws
+pub mod Steps

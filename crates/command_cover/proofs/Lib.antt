@@ -1,0 +1,5 @@
+pub mod FaultLemmas
+pub mod ReadingLemmas
+pub mod StepLemmas
+pub mod MergeLemmas
+pub mod OrderLemmas

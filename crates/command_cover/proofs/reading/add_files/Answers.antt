@@ -1,0 +1,29 @@
+use Rattle.std.proofs.Common.{ℕ, ◌+◌, List, [], drop, get_or, Bor, ◌∙◌}
+use Rattle.command_ending.proofs.NamesLemmas.{seen, seen_from, seen_within}
+use Rattle.command_cover.proofs.StepLemmas.{added_first, refused_first}
+use Rattle.command_cover.proofs.reading.add_files.Goals as goal
+
+pub returns-in-Err-clause-err : goal.returns-in-Err-clause-err
+returns-in-Err-clause-err g c =
+    let told = g.F.Files.held c.args.files.now in
+    let other : Bor (List ℕ) = record { ref_ptr = (0, 0); now = [] } in
+    let refused = rw (c.names.invariant.held, c.names.invariant.faults) at c.in-Err.ensures.err in
+    let name = (get_or c.args.names.now c.names.name-index other).now in
+    let rest = seen (drop (c.names.name-index + 1) c.args.names.now) in
+    let first = rw (seen_from c.args.names.now c.names.name-index other c.names-test.true) at c.names.invariant.outcome in
+    refused_first told c.names.merged c.args.merged.now name rest (seen c.args.names.now) _ _ c.in-Err.ending
+    (seen_within c.args.names.now c.names.name-index other c.names-test.true) first refused
+
+pub names-preserved : goal.names-preserved
+names-preserved g c =
+    let told = g.F.Files.held c.args.files.now in
+    let other : Bor (List ℕ) = record { ref_ptr = (0, 0); now = [] } in
+    let read = rw c.names.invariant.held at c.in-Ok.ensures.ok in
+    let name = (get_or c.args.names.now c.names.name-index other).now in
+    let rest = seen (drop (c.names.name-index + 1) c.args.names.now) in
+    let first = rw (seen_from c.args.names.now c.names.name-index other c.names-test.true) at c.names.invariant.outcome in
+    record {
+      outcome = added_first told c.names.merged c.add_file.new.merged c.args.merged.now name rest (seen c.args.names.now) read first;
+      held = c.in-Ok.ensures.held ∙ c.names.invariant.held;
+      faults = c.in-Ok.ensures.ok_quiet ∙ c.names.invariant.faults;
+    }

@@ -1,0 +1,5 @@
+pub mod CoverReading
+pub mod Merge
+pub mod MergePromise
+pub mod Laws
+pub mod Steps

@@ -1,0 +1,9 @@
+pub mod Answer
+pub mod ErrorLines
+pub mod ExitCode
+pub mod Promise
+pub mod Ending
+pub mod World
+pub mod Leaves
+pub mod Stops
+pub mod Finish
