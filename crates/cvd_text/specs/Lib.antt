@@ -1,0 +1,10 @@
+pub mod Tokens
+pub mod Lines
+pub mod Expressions
+pub mod Targets
+pub mod Steps
+pub mod Sections
+pub mod Spelling
+pub mod Pieces
+pub mod Fault
+pub mod Laws

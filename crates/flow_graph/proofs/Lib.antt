@@ -1,0 +1,4 @@
+pub mod Trails
+pub mod Search
+pub mod Walking
+pub mod Turned

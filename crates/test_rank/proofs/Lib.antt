@@ -1,0 +1,5 @@
+pub mod Counts
+pub mod Covering
+pub mod Sums
+pub mod Chosen
+pub mod OneRank

@@ -1,0 +1,4 @@
+pub mod Ranking
+pub mod Laws
+pub mod Counting
+pub mod Choosing
