@@ -1,4 +1,4 @@
--- What the parts of a cutter do (private).
+-- Private: what the parts of a cutter do.
 use Rattle.std.specs.Prelude.{◌≡◌, ℕ, ◌+◌, ◌<◌, List, [], ◌∷◌, ◌++◌, length, take, drop, true, Option, Some, IfSome}
 use Rattle.cov_port.specs.Cutting.{has_no_feed}
 use Rattle.cov_port.specs.declared.line_step.LineStep.{LineStep}

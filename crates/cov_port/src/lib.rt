@@ -21,8 +21,6 @@ mod real_sink;
 mod sink;
 mod span;
 mod take;
-#[cfg(test)]
-mod tests;
 mod threads;
 
 pub use bytes::place_of;

@@ -10,8 +10,6 @@ mod names;
 mod piece;
 mod reading;
 mod table;
-#[cfg(test)]
-mod tests;
 mod values;
 
 pub use command::{Build, Command, Cover, Sim};

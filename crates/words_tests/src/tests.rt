@@ -1,6 +1,6 @@
 //! Command lines, and what they spell.
 
-use crate::{Build, Command, Cover, Names, Sim, read_words};
+use cov_words::{Build, Command, Cover, Names, Sim, read_words};
 use std::alloc::Global;
 use std::fmt::Write;
 use std::test::Fail;

@@ -1,0 +1,5 @@
+//! Command lines, and what they spell, as tables. It has tests alone.
+#![tactic(auto)]
+
+#[cfg(test)]
+mod tests;
