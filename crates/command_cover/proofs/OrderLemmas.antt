@@ -1,20 +1,26 @@
 -- Files in another order.
-use Rattle.std.proofs.Common.{◌≡◌, ℕ, List, [], ◌∷◌, ◌++◌, map, refl, sym, ◌∙◌, ap, subst, Option, None, Some, Ok, Err, IsPermutation}
+use Rattle.std.proofs.Common.{◌≡◌, ◌≤◌, ℕ, List, [], ◌∷◌, ◌++◌, map, length, refl, sym, ◌∙◌, ap, subst, Option, None, Some, Ok, Err, IsPermutation, append_assoc, arith}
 use Rattle.std.specs.Prelude.{filter, option_map}
-use Rattle.std.proofs.lemmas.List.Sorted.{IsPermutation-map}
+use Rattle.std.specs.List.{All}
+use Rattle.std.proofs.lemmas.List.{append-nil}
+use Rattle.std.proofs.lemmas.List.Elements.{All-cons, All-head, All-nil, All-tail}
+use Rattle.std.proofs.lemmas.List.Sorted.{All-permutation, IsPermutation-map, length_permutation}
 use Rattle.cov_port.specs.Files.{Names}
 use Rattle.cov_dat.specs.DataText.{CountMap, count_map, data_text}
-use Rattle.cov_dat.specs.Laws.{FilesInAnyOrder, all_records}
+use Rattle.cov_dat.specs.Laws.{FilesInAnyOrder, LimitsInAnyOrder, LimitsStay, all_records}
 use Rattle.cov_dat.specs.Merging.{limit_passed, merged}
 use Rattle.cov_dat.specs.Reading.{reading}
 use Rattle.cov_dat.specs.declared.fault.DataFault.{DataFault}
 use Rattle.cov_dat.specs.declared.fault.DataFault.TheVariants as fault
+use Rattle.cov_types.specs.Limits.{most}
 use Rattle.cov_types.specs.declared.limit.LimitName.{LimitName}
+use Rattle.cov_types.specs.declared.limit.LimitName.TheVariants.{Files}
 use Rattle.cov_dat.specs.declared.record_list.Record.{Record}
 use Rattle.command_ending.specs.Answer.{Answer, done, over_limit}
 use Rattle.command_ending.specs.declared.status.Status.TheVariants.{Done, Limit}
-use Rattle.command_cover.specs.CoverReading.{Arrival, arrived, ended, stopped, IsReading, all_read, stops_at, all_arrivals, end_of, file_arrivals, reason_at, records_in, refusal_of}
-use Rattle.command_cover.specs.Merge.{IsMergeAnswer, too_many, unread, all_merged, keeps_all, merge_to}
+use Rattle.command_cover.specs.CoverReading.{Arrival, arrived, ended, stopped, IsReadOn, IsReading, all_read, stops_at, all_arrivals, end_of, file_arrivals, reason_at, records_in, refusal_of}
+use Rattle.command_cover.specs.Laws.{MergesInAnyOrder}
+use Rattle.command_cover.specs.Merge.{IsMergeAnswer, too_many, unread, all_merged, keeps_all, merge_to, stored_at}
 use Rattle.command_cover.proofs.ReadingLemmas.{records_append}
 
 -- the records of each file
@@ -83,21 +89,129 @@ reading_stops : (arrivals : List Arrival) (answer : Answer) → AreStops arrival
 reading_stops arrivals answer all (stops_at before a after x split on reason) over =
     reason_stops before a x (stop_within before a after (subst AreStops split all)) reason over
 
-records_same : (arrivals : List Arrival) (records : List Record) → IsReading arrivals (Ok records) → records ≡ records_in arrivals
-records_same arrivals records (all_read on) = refl
+-- what comes is no reason to stop of its own
+abbrev Goes : Arrival → Type 0
+Goes (arrived r) = Unit {0}
+Goes ended = Unit {0}
+Goes (stopped answer) = ⊥
 
--- a merge that is done stores the records of its files
-done_is : (held : Names) (out : List ℕ) (names : List (List ℕ)) (a : Answer) → IsMergeAnswer held (merge_to out names) a → a.status ≡ Done
-    → a ≡ done [] ((out, data_text (count_map (merged (all_records (map (file_records held) names))))) ∷ [])
-done_is held out names a (too_many many) over = absurd (cc)
-done_is held out names a (unread answer few is) over = absurd (reading_stops (all_arrivals held keeps_all names) answer (all_stop held names) is over)
-done_is held out names a (all_merged records few is) over =
-    ap (λ (rs : List Record). done [] ((out, data_text (count_map (merged rs))) ∷ []))
-    (records_same (all_arrivals held keeps_all names) records is ∙ records_of_all held names)
+abbrev AllGo : List Arrival → Type 0
+AllGo [] = Unit {0}
+AllGo (a ∷ rest) = Goes a × AllGo rest
 
-pub any_order : FilesInAnyOrder → (held : Names) (out : List ℕ) (xs ys : List (List ℕ)) (a b : Answer) → IsPermutation xs ys
-    → IsMergeAnswer held (merge_to out xs) a → IsMergeAnswer held (merge_to out ys) b → a.status ≡ Done → b.status ≡ Done → a ≡ b
-any_order law held out xs ys a b moved one two done_a done_b =
-    done_is held out xs a one done_a
-    ∙ ap (λ (m : CountMap). done [] ((out, data_text m) ∷ [])) (law (map (file_records held) xs) (map (file_records held) ys) (IsPermutation-map (file_records held) xs ys moved))
-    ∙ sym (done_is held out ys b two done_b)
+go_append : (xs ys : List Arrival) → AllGo xs → AllGo ys → AllGo (xs ++ ys)
+go_append [] ys one two = two
+go_append (x ∷ xs) ys one two = (one.0, go_append xs ys one.1 two)
+
+go_front : (xs ys : List Arrival) → AllGo (xs ++ ys) → AllGo xs
+go_front [] ys all = tt
+go_front (x ∷ xs) ys all = (all.0, go_front xs ys all.1)
+
+go_back : (xs ys : List Arrival) → AllGo (xs ++ ys) → AllGo ys
+go_back [] ys all = all
+go_back (x ∷ xs) ys all = go_back xs ys all.1
+
+go_within : (before : List Arrival) (a : Arrival) (after : List Arrival) → AllGo (before ++ a ∷ after) → Goes a
+go_within [] a after all = all.0
+go_within (b ∷ before) a after all = go_within before a after all.1
+
+one_goes : (before : List Arrival) (a : Arrival) → reason_at before a ≡ None → Goes a
+one_goes before (arrived r) none = tt
+one_goes before ended none = tt
+one_goes before (stopped answer) none = absurd (cc)
+
+-- of what is read on nothing is a reason to stop
+read_goes : (before rest : List Arrival) → IsReadOn (before ++ rest) → AllGo rest
+read_goes before [] on = tt
+read_goes before (a ∷ rest) on = (
+  one_goes before a (on before a rest refl),
+  read_goes (before ++ a ∷ []) rest (subst IsReadOn (sym (append_assoc before (a ∷ []) rest)) on),
+)
+
+no_limit : (o : Option LimitName) → option_map over_limit o ≡ None → o ≡ None
+no_limit None none = refl
+no_limit (Some name) none = absurd (cc)
+
+-- what is read on passes no limit
+one_within : (before : List Arrival) (a : Arrival) → reason_at before a ≡ None → limit_passed (merged (records_in before)) ≡ None
+    → limit_passed (merged (records_in (before ++ a ∷ []))) ≡ None
+one_within before (arrived r) none within =
+    ap (λ (rs : List Record). limit_passed (merged rs)) (records_append before (arrived r ∷ []))
+    ∙ no_limit (limit_passed (merged (records_in before ++ r ∷ []))) none
+one_within before ended none within =
+    ap (λ (rs : List Record). limit_passed (merged rs)) (records_append before (ended ∷ []) ∙ append-nil (records_in before)) ∙ within
+one_within before (stopped answer) none within = absurd (cc)
+
+read_within : (before rest : List Arrival) → IsReadOn (before ++ rest) → limit_passed (merged (records_in before)) ≡ None
+    → limit_passed (merged (records_in (before ++ rest))) ≡ None
+read_within before [] on within = ap (λ (xs : List Arrival). limit_passed (merged (records_in xs))) (append-nil before) ∙ within
+read_within before (a ∷ rest) on within =
+    let split : before ++ a ∷ rest ≡ (before ++ a ∷ []) ++ rest = sym (append_assoc before (a ∷ []) rest) in
+    ap (λ (xs : List Arrival). limit_passed (merged (records_in xs))) split
+    ∙ read_within (before ++ a ∷ []) rest (subst IsReadOn split on) (one_within before a (on before a rest refl) within)
+
+-- what goes on and passes no limit is read on
+no_reason : (before : List Arrival) (a : Arrival) → Goes a → ((r : Record) → a ≡ arrived r → limit_passed (merged (records_in before ++ r ∷ [])) ≡ None)
+    → reason_at before a ≡ None
+no_reason before (arrived r) goes within = ap (λ (o : Option LimitName). option_map over_limit o) (within r refl)
+no_reason before ended goes within = refl
+no_reason before (stopped answer) goes within = absurd goes
+
+reads_on : LimitsStay → (arrivals : List Arrival) → AllGo arrivals → limit_passed (merged (records_in arrivals)) ≡ None → IsReadOn arrivals
+reads_on stay arrivals all within before a after split =
+    no_reason before a (go_within before a after (subst AllGo split all))
+    (λ r is.
+    let records : records_in arrivals ≡ (records_in before ++ r ∷ []) ++ records_in after =
+    ap records_in (split ∙ ap (λ (b : Arrival). before ++ b ∷ after) is)
+    ∙ records_append before (arrived r ∷ after) ∙ sym (append_assoc (records_in before) (r ∷ []) (records_in after)) in
+    stay (records_in before ++ r ∷ []) (records_in after) (ap (λ (rs : List Record). limit_passed (merged rs)) (sym records) ∙ within))
+
+-- nothing that comes from a file is a reason to stop
+abbrev FileGoes : Names → List ℕ → Type 0
+FileGoes held name = AllGo (file_arrivals keeps_all name (held name))
+
+each_goes : (held : Names) (names : List (List ℕ)) → AllGo (all_arrivals held keeps_all names) → All (FileGoes held) names
+each_goes held [] all = All-nil (FileGoes held)
+each_goes held (name ∷ names) all =
+    All-cons (FileGoes held) name names (go_front (file_arrivals keeps_all name (held name)) (all_arrivals held keeps_all names) all)
+    (each_goes held names (go_back (file_arrivals keeps_all name (held name)) (all_arrivals held keeps_all names) all))
+
+all_go : (held : Names) (names : List (List ℕ)) → All (FileGoes held) names → AllGo (all_arrivals held keeps_all names)
+all_go held [] each = tt
+all_go held (name ∷ names) each =
+    go_append (file_arrivals keeps_all name (held name)) (all_arrivals held keeps_all names) (All-head (FileGoes held) name names each)
+    (all_go held names (All-tail (FileGoes held) name names each))
+
+any_order_go : (held : Names) (xs ys : List (List ℕ)) → IsPermutation xs ys → AllGo (all_arrivals held keeps_all xs) → AllGo (all_arrivals held keeps_all ys)
+any_order_go held xs ys moved all = all_go held ys (All-permutation (FileGoes held) xs ys moved (each_goes held xs all))
+
+-- the merge of files in another order
+other_order : FilesInAnyOrder → LimitsInAnyOrder → LimitsStay → (held : Names) (out : List ℕ) (xs ys : List (List ℕ)) → IsPermutation xs ys
+    → length xs ≤ most Files → IsReadOn (all_arrivals held keeps_all xs)
+    → IsMergeAnswer held (merge_to out ys) (stored_at out (records_in (all_arrivals held keeps_all xs)))
+other_order files limits stay held out xs ys moved few on =
+    let few_too : length ys ≤ most Files = omega (arith, length_permutation xs ys moved) in
+    let parts = IsPermutation-map (file_records held) xs ys moved in
+    let same : count_map (merged (records_in (all_arrivals held keeps_all ys))) ≡ count_map (merged (records_in (all_arrivals held keeps_all xs))) =
+    ap (λ (rs : List Record). count_map (merged rs)) (records_of_all held ys)
+    ∙ sym (files (map (file_records held) xs) (map (file_records held) ys) parts)
+    ∙ ap (λ (rs : List Record). count_map (merged rs)) (sym (records_of_all held xs)) in
+    let within : limit_passed (merged (records_in (all_arrivals held keeps_all ys))) ≡ None =
+    ap (λ (rs : List Record). limit_passed (merged rs)) (records_of_all held ys)
+    ∙ sym (limits (map (file_records held) xs) (map (file_records held) ys) parts)
+    ∙ ap (λ (rs : List Record). limit_passed (merged rs)) (sym (records_of_all held xs))
+    ∙ read_within [] (all_arrivals held keeps_all xs) on refl in
+    let on_too = reads_on stay (all_arrivals held keeps_all ys) (any_order_go held xs ys moved (read_goes [] (all_arrivals held keeps_all xs) on)) within in
+    subst (λ (m : CountMap). IsMergeAnswer held (merge_to out ys) (done [] ((out, data_text m) ∷ []))) same
+    (all_merged (records_in (all_arrivals held keeps_all ys)) few_too (all_read on_too))
+
+-- a reading of all records
+of_all : FilesInAnyOrder → LimitsInAnyOrder → LimitsStay → (held : Names) (out : List ℕ) (xs ys : List (List ℕ)) (records : List Record) → IsPermutation xs ys
+    → length xs ≤ most Files → IsReading (all_arrivals held keeps_all xs) (Ok records) → IsMergeAnswer held (merge_to out ys) (stored_at out records)
+of_all files limits stay held out xs ys records moved few (all_read on) = other_order files limits stay held out xs ys moved few on
+
+pub any_order : FilesInAnyOrder → LimitsInAnyOrder → LimitsStay → MergesInAnyOrder
+any_order files limits stay held out xs ys a moved (too_many many) over = absurd (cc)
+any_order files limits stay held out xs ys a moved (unread answer few is) over =
+    absurd (reading_stops (all_arrivals held keeps_all xs) answer (all_stop held xs) is over)
+any_order files limits stay held out xs ys a moved (all_merged records few is) over = of_all files limits stay held out xs ys records moved few is

@@ -2,24 +2,20 @@
 use Rattle.std.proofs.Common.{◌≡◌, ℕ, Bool, true, false, cond, List, [], ◌∷◌, ◌++◌, refl, sym, ◌∙◌, ap, subst, Option, None, Some, Result, Ok, Err}
 use Rattle.std.specs.Prelude.{IfSome, Contains}
 use Rattle.cov_port.specs.Files.{Names, FileFaults}
-use Rattle.cov_port.specs.Taking.{IsFrontOf}
 use Rattle.cov_types.specs.declared.limit.LimitName.{LimitName}
 use Rattle.cov_types.specs.declared.limit.LimitName.TheVariants.{DataPoints, TotalKeyBytes}
-use Rattle.cov_dat.specs.Reading.{reading}
-use Rattle.cov_dat.specs.FrontLaw.{ReadsByFront}
 use Rattle.cov_dat.specs.Merging.{Counts, added, limit_passed}
 use Rattle.cov_dat.specs.declared.record_list.Record.{Record}
-use Rattle.cov_dat.specs.declared.record_list.RecordList.{RecordList}
 use Rattle.cov_dat.specs.declared.merge_fault.MergeFault.{MergeFault}
 use Rattle.cov_dat.specs.declared.merge_fault.MergeFault.TheVariants as merge_fault
 use Rattle.command_ending.specs.Answer.{Answer, over_limit}
 use Rattle.command_ending.specs.Stops.{IsRefusal, Stops, taking}
 use Rattle.command_ending.specs.declared.ending.Ending.{Ending}
 use Rattle.command_ending.proofs.PutLemmas.{always_told, if_told, if_told_both}
-use Rattle.command_ending.proofs.StopLemmas.{refusal_stops, refusal_weaker, stops_weaker}
-use Rattle.command_cover.specs.CoverReading.{Arrival, arrived, ended, stopped, arrivals_of, file_arrivals, all_arrivals}
+use Rattle.command_ending.proofs.StopLemmas.{refusal_weaker, stops_weaker}
+use Rattle.command_cover.specs.CoverReading.{Arrival, arrived, ended, stopped, file_arrivals, all_arrivals}
 use Rattle.command_cover.specs.Merge.{keeps_all}
-use Rattle.command_cover.specs.MergePromise.{FileRefuses, IsDataLimit, data_points, total_key_bytes, past_limit}
+use Rattle.command_cover.specs.MergePromise.{IsDataLimit, data_points, total_key_bytes}
 use Rattle.command_cover.specs.Steps.{continued, with_limit, file_promise, files_promise}
 
 -- a record within the limits goes on
@@ -67,26 +63,6 @@ continued-append-err counts (arrived r ∷ first) rest answer is =
       | Some name ↦ λ e. e
     ] is
 
--- the front of a file that is taken reads as the file
-pub taken : (held : Option Names) (name text : List ℕ) (counts : Counts) (r : Result Counts Answer) → ReadsByFront
-    → IsFrontOf held name 4294967297 text → continued counts (arrivals_of keeps_all name (reading text)) ≡ r → IfSome held (λ h. continued counts (file_arrivals keeps_all name (h name)) ≡ r)
-taken None name text counts r front is_front is = tt
-taken (Some names) name text counts r front is_front is =
-    ap (λ (held : Option (List ℕ)). continued counts (file_arrivals keeps_all name held)) is_front.1
-    ∙ ap (λ (list : RecordList). continued counts (arrivals_of keeps_all name list)) (sym (front is_front.0) ∙ ap reading (sym is_front.2)) ∙ is
-
--- a text that is refused refuses its file
-pub taken_stops : (held : Option Names) (name text : List ℕ) (counts : Counts) (before now : FileFaults) (e : Ending) → ReadsByFront → IsFrontOf held name 4294967297 text → now ≡ before
-    → IsRefusal (λ answer. (continued counts (arrivals_of keeps_all name (reading text)) ≡ Err answer) × FileRefuses name answer.status answer.line) e
-    → Stops (file_promise counts name) held before now e
-taken_stops held name text counts before now e front is_front quiet is =
-    refusal_stops (file_promise counts name) _ held before now e quiet (λ status line one. one.1) (each held is_front) is where
-      each : (told : Option Names) → IsFrontOf told name 4294967297 text
-          → IfSome told (λ h. (answer : Answer) → (continued counts (arrivals_of keeps_all name (reading text)) ≡ Err answer) × FileRefuses name answer.status answer.line
-          → continued counts (file_arrivals keeps_all name (h name)) ≡ Err answer)
-      each None there = tt
-      each (Some names) there = λ answer one. taken (Some names) name text counts (Err answer) front there one.0
-
 -- a file that can't be taken
 pub untaken_stops : (held : Option Names) (name : List ℕ) (counts : Counts) (before now : FileFaults) (e : Ending) → Stops (taking name) held before now e → Stops (file_promise counts name) held before now e
 untaken_stops held name counts before now e is =
@@ -109,21 +85,6 @@ refused_first told counts first name names all before now e there so is =
     stops_weaker (file_promise counts name) (files_promise first all) told before now e (λ other same. subst (Contains all) (sym same) there)
     (λ status line one. (name, there, one))
     (if_told told _ _ (λ held same answer one. sym same ∙ continued-append-err counts (file_arrivals keeps_all name (held name)) (all_arrivals held keeps_all names) answer one) so) is
-
--- a text that is refused with an answer
-pub refused_text : (r : Result Counts Answer) (name : List ℕ) (found : Answer) (e : Ending) → r ≡ Err found → FileRefuses name found.status found.line
-    → IsRefusal (λ answer. answer ≡ found) e → IsRefusal (λ answer. (r ≡ Err answer) × FileRefuses name answer.status answer.line) e
-refused_text r name found e outcome may is =
-    refusal_weaker _ _ e (λ a same. (outcome ∙ ap Err (sym same), subst (λ (x : Answer). FileRefuses name x.status x.line) (sym same) may)) is
-
--- a limit that refuses its file
-pub refused_limit : (r : Result Counts Answer) (name : List ℕ) (fault : MergeFault) (e : Ending)
-    → ((limit : LimitName) → fault ≡ merge_fault.Limit limit → (r ≡ Err (over_limit limit)) × IsDataLimit limit)
-    → IsRefusal (λ answer. (limit : LimitName) × (fault ≡ merge_fault.Limit limit) × (answer ≡ over_limit limit)) e
-    → IsRefusal (λ answer. (r ≡ Err answer) × FileRefuses name answer.status answer.line) e
-refused_limit r name fault e why is =
-    refusal_weaker _ _ e (λ a one. let so = why one.0 one.1 in
-    (so.0 ∙ ap Err (sym one.2), subst (λ (x : Answer). FileRefuses name x.status x.line) (sym one.2) (past_limit one.0 so.1))) is
 
 -- the limit on merged keys of a fault
 pub limit_refusal : (fault : MergeFault) (limit : LimitName) (e : Ending) → fault ≡ merge_fault.Limit limit → IsRefusal (λ answer. answer ≡ over_limit limit) e

@@ -18,7 +18,7 @@ IsDoneUnlessWrong = (held : Names) (merge : Merging) (answer : Answer) → lengt
     → IsReadOn (all_arrivals held keeps_all merge.files) → IsMergeAnswer held merge answer
     → answer ≡ stored_at merge.out (records_in (all_arrivals held keeps_all merge.files))
 
--- two merges of the same files, in any order, that are both done have the same answer
+-- a merge that is done is done with the same answer where its files are read in another order
 abbrev pub MergesInAnyOrder : Type 0
-MergesInAnyOrder = (held : Names) (out : List ℕ) (xs ys : List (List ℕ)) (a b : Answer) → IsPermutation xs ys
-    → IsMergeAnswer held (merge_to out xs) a → IsMergeAnswer held (merge_to out ys) b → a.status ≡ Done → b.status ≡ Done → a ≡ b
+MergesInAnyOrder = (held : Names) (out : List ℕ) (xs ys : List (List ℕ)) (a : Answer) → IsPermutation xs ys
+    → IsMergeAnswer held (merge_to out xs) a → a.status ≡ Done → IsMergeAnswer held (merge_to out ys) a

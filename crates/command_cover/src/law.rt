@@ -2,7 +2,7 @@
 
 ghost use Rattle.command_cover.specs.Laws.{IsDoneUnlessWrong, MergesInAnyOrder, OneMerge};
 
-use cov_dat::files_in_any_order;
+use cov_dat::{files_in_any_order, limits_in_any_order, limits_stay};
 
 /// A merge has one answer at most.
 pub fn merge_has_one_answer()
@@ -14,9 +14,11 @@ pub fn merge_is_done_unless_wrong()
     ensures { IsDoneUnlessWrong }
 {}
 
-/// The order of the files changes nothing in what a merge stores.
+/// A merge that is done is done with the same answer where its files are read in another order.
 pub fn merges_in_any_order()
     ensures { MergesInAnyOrder }
 {
     files_in_any_order();
+    limits_in_any_order();
+    limits_stay();
 }

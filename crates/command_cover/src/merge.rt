@@ -10,6 +10,7 @@ ghost use Rattle.command_ending.specs.World.{world};
 ghost use Rattle.command_cover.specs.CoverReading.{all_arrivals};
 ghost use Rattle.command_cover.specs.Merge.{keeps_all, merge_to};
 ghost use Rattle.command_cover.specs.MergePromise.{merge_promise};
+ghost use Rattle.command_cover.specs.Sparing.{IsSparing};
 ghost use Rattle.command_cover.specs.Steps.{continued, files_promise};
 
 use crate::reading::add_files;
@@ -29,6 +30,9 @@ pub fn merge_files<F: Files, O: Sink>(
     ensures leaves { Leaves (merge_promise (merge_to name.now (map (λ name. name.now) names.now))) (line_at result)
         (world (F.held files.old) (F.faults files.old) (O.written out.old) (O.faults out.old))
         (world (F.held files.new) (F.faults files.new) (O.written out.new) (O.faults out.new)) (status_at result) }
+
+    // Of a file that is refused at a line no more is taken than the lines before it and one buffer.
+    ensures sparing { IsSparing (map (λ name. name.now) names.now) (status_at result) (line_at result) (F.rest files.new) (F.held files.old) }
 {
     adding_gives_the_sums();
     if are_too_many(names) {
@@ -51,6 +55,7 @@ fn merged_file<F: Files>(
         × IfSome (F.held files.old) (λ held. continued [] (all_arrivals held keeps_all (map (λ name. name.now) names.now)) ≡ Ok counts)) }
     ensures ok_quiet { OnOk result (F.faults files.new ≡ F.faults files.old) }
     ensures err { IfErr result (Stops (files_promise [] (map (λ name. name.now) names.now)) (F.held files.old) (F.faults files.old) (F.faults files.new)) }
+    ensures sparing { IfErr result (λ ending. IsSparing (map (λ name. name.now) names.now) (status_at ending) (line_at ending) (F.rest files.new) (F.held files.old)) }
     ensures held { F.held files.new ≡ F.held files.old }
 {
     let mut merged = match Merged::new(alloc) {

@@ -1,18 +1,21 @@
 //! The data files, read one after the other.
 
 ghost use Rattle.std.specs.Prelude.{◌≡◌, map, Ok, Err, OnOk, IfErr, IfSome};
-ghost use Rattle.cov_dat.specs.Reading.{reading};
 ghost use Rattle.cov_types.specs.declared.limit.LimitName.{LimitName};
 ghost use Rattle.command_ending.specs.Answer.{over_limit as answer_of};
+ghost use Rattle.command_ending.specs.Ending.{line_at, status_at};
+ghost use Rattle.command_ending.specs.ErrorLines as spec;
+ghost use Rattle.command_ending.specs.Opening.{IsOpened};
 ghost use Rattle.command_ending.specs.Stops.{IsRefusal, Stops};
-ghost use Rattle.command_cover.specs.CoverReading.{all_arrivals, arrivals_of, file_arrivals, refusal_of};
+ghost use Rattle.command_ending.specs.declared.status.Status.TheVariants.{BadData};
+ghost use Rattle.command_cover.specs.CoverReading.{all_arrivals, file_arrivals, refusal_of};
 ghost use Rattle.command_cover.specs.Merge.{keeps_all};
-ghost use Rattle.command_cover.specs.MergePromise.{FileRefuses};
+ghost use Rattle.command_cover.specs.Sparing.{IsSparing, TakesFew, TakesFewAt};
 ghost use Rattle.command_cover.specs.Steps.{continued, file_promise, files_promise};
 
-use command_ending::{Ending, bad_data, over_limit, take_input};
-use cov_dat::{DataFault, MergeFault, Merged, TextReader, front_is_enough};
-use cov_port::{Files, LimitName};
+use command_ending::{Ending, Status, bad_data, open_input, over_limit};
+use cov_dat::{DataFault, DataReader, MergeFault, Merged, RecordStep};
+use cov_port::{ByteText, Files};
 use std::alloc::Global;
 
 /// How a command ends for the fault of a data file's text.
@@ -40,25 +43,40 @@ fn limit_of(alloc: Global, fault: MergeFault) -> Ending
     }
 }
 
-/// Adds the records of a data file's text.
-fn add_text(alloc: Global, name: &str, merged: &mut Merged, text: &[u8]) -> Result<(), Ending>
-    ensures ok { OnOk result (continued merged.old (arrivals_of keeps_all name.now (reading text.now)) ≡ Ok merged.new) }
-    ensures err { IfErr result (IsRefusal (λ answer. (continued merged.old (arrivals_of keeps_all name.now (reading text.now)) ≡ Err answer) × FileRefuses name.now answer.status answer.line)) }
+/// Adds the records of the open file, which has this name. The line is what is said where a read fails.
+fn add_open<F: Files>(
+    alloc: Global,
+    files: &mut F,
+    name: &str,
+    line: ByteText,
+    merged: &mut Merged,
+) -> Result<(), Ending>
+    requires opened { IsOpened (F.held files.old) name.now (F.rest files.old) }
+    requires line { line ≡ spec.read_line name.now }
+    ensures ok { OnOk result (IfSome (F.held files.old) (λ held. continued merged.old (file_arrivals keeps_all name.now (held name.now)) ≡ Ok merged.new)) }
+    ensures ok_quiet { OnOk result (F.faults files.new ≡ F.faults files.old) }
+    ensures err { IfErr result (Stops (file_promise merged.old name.now) (F.held files.old) (F.faults files.old) (F.faults files.new)) }
+    ensures sparing { IfErr result (λ ending. status_at ending ≡ BadData → IfSome (F.rest files.old) (λ text. TakesFew name.now text (line_at ending) (F.rest files.new))) }
+    ensures held { F.held files.new ≡ F.held files.old }
 {
-    let mut reader = TextReader::new(text);
+    let mut reader = match DataReader::new(alloc) {
+        Ok(reader) => reader,
+        Err(_) => return Err(Ending::NoMemory),
+    };
     'records: loop {
-        match reader.next_record() {
-            Ok(Some((key, count))) => match merged.add(key, count) {
+        match reader.next_record(files) {
+            Ok(RecordStep::Record) => match merged.add(reader.key(), reader.count()) {
                 Ok(_) => {}
                 Err(fault) => return Err(limit_of(alloc, fault)),
             },
-            Ok(None) => return Ok(()),
+            Ok(RecordStep::End) => return Ok(()),
+            Err(DataFault::Failed) => return Err(Ending::Refused(Status::Fault, line)),
             Err(fault) => return Err(refusal_of(alloc, name, fault)),
         }
     }
 }
 
-/// Adds the records of one file.
+/// Adds the records of one file, line by line.
 fn add_file<F: Files>(
     alloc: Global,
     files: &mut F,
@@ -68,11 +86,11 @@ fn add_file<F: Files>(
     ensures ok { OnOk result (IfSome (F.held files.old) (λ held. continued merged.old (file_arrivals keeps_all name.now (held name.now)) ≡ Ok merged.new)) }
     ensures ok_quiet { OnOk result (F.faults files.new ≡ F.faults files.old) }
     ensures err { IfErr result (Stops (file_promise merged.old name.now) (F.held files.old) (F.faults files.old) (F.faults files.new)) }
+    ensures sparing { IfErr result (λ ending. status_at ending ≡ BadData → IfSome (F.held files.old) (TakesFewAt name.now (line_at ending) (F.rest files.new))) }
     ensures held { F.held files.new ≡ F.held files.old }
 {
-    front_is_enough();
-    match take_input(alloc, files, name, LimitName::DataBytes.most()) {
-        Ok(text) => add_text(alloc, name, merged, text.as_slice()),
+    match open_input(alloc, files, name) {
+        Ok(line) => add_open(alloc, files, name, line, merged),
         Err(ending) => Err(ending),
     }
 }
@@ -87,6 +105,7 @@ pub(crate) fn add_files<F: Files>(
     ensures ok { OnOk result (IfSome (F.held files.old) (λ held. continued merged.old (all_arrivals held keeps_all (map (λ name. name.now) names.now)) ≡ Ok merged.new)) }
     ensures ok_quiet { OnOk result (F.faults files.new ≡ F.faults files.old) }
     ensures err { IfErr result (Stops (files_promise merged.old (map (λ name. name.now) names.now)) (F.held files.old) (F.faults files.old) (F.faults files.new)) }
+    ensures sparing { IfErr result (λ ending. IsSparing (map (λ name. name.now) names.now) (status_at ending) (line_at ending) (F.rest files.new) (F.held files.old)) }
     ensures held { F.held files.new ≡ F.held files.old }
 {
     'names: for name in names {

@@ -1,5 +1,5 @@
 -- Commands in which nothing is wrong.
-use Rattle.std.proofs.Common.{◌≡◌, ◌⊎◌, ℕ, ◌<◌, List, refl, sym, ◌∙◌, ap, Option, None, Some, inl, inr, arith}
+use Rattle.std.proofs.Common.{◌≡◌, ◌⊎◌, ℕ, List, refl, ◌∙◌, Option, None, Some, inl, inr, arith}
 use Rattle.std.specs.Prelude.{IfSome, IsSomeAnd}
 use Rattle.cov_port.specs.Files.{Names}
 use Rattle.command_ending.specs.Answer.{Answer, absent}

@@ -1,8 +1,7 @@
 -- What a command leaves that puts its output and makes its stores.
-use Rattle.std.proofs.Common.{◌≡◌, ℕ, List, refl, Option, map}
+use Rattle.std.proofs.Common.{ℕ, List, refl, map}
 use Rattle.std.specs.Prelude.{IfSome, Contains}
-use Rattle.cov_port.specs.Files.{Names}
-use Rattle.command_ending.specs.Answer.{Answer, done}
+use Rattle.command_ending.specs.Answer.{done}
 use Rattle.command_ending.specs.Ending.{line_at, status_at}
 use Rattle.command_ending.specs.Finish.{IsFinish, all_done, put_failed, store_failed}
 use Rattle.command_ending.specs.Leaves.{Leaves}

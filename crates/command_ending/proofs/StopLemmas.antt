@@ -1,10 +1,10 @@
 -- What a command leaves that stops while it reads.
-use Rattle.std.proofs.Common.{◌≡◌, ℕ, List, [], refl, sym, ap, subst, ◌∙◌, true, false, Bool, Option, None, Some}
-use Rattle.std.specs.Prelude.{IfSome, IsSomeAnd}
+use Rattle.std.proofs.Common.{◌≡◌, ℕ, List, refl, ap, subst, true, false, Bool, Option}
+use Rattle.std.specs.Prelude.{IfSome}
 use Rattle.cov_port.specs.Files.{Names, FileFaults}
 use Rattle.command_ending.specs.Answer.{Answer, refused_with, absent}
 use Rattle.command_ending.specs.Ending.{line_at, status_at}
-use Rattle.command_ending.specs.Leaves.{IsFault, no_such_name, open_failed, read_failed, IsLeft, Leaves, StopsBefore}
+use Rattle.command_ending.specs.Leaves.{no_such_name, open_failed, read_failed, IsLeft, Leaves, StopsBefore}
 use Rattle.command_ending.specs.Promise.{Promise, IsLineOf}
 use Rattle.command_ending.specs.Stops.{is_refusal, IsRefusal, without_memory, refused, Stops, wants_memory, lacks_name, cannot_open, cannot_read, refuses}
 use Rattle.command_ending.specs.World.{IsUntouched, World, world}

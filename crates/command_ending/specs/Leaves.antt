@@ -1,7 +1,7 @@
 -- What a command leaves.
 use Rattle.std.specs.Prelude.{◌≡◌, ℕ, Bool, true, false, List, Option, IfSome, IsSomeAnd}
 use Rattle.cov_port.specs.Causes.{Rose, IsQuiet, Both}
-use Rattle.cov_port.specs.Files.{Names, OpensRose, ReadsRose, StoresRose}
+use Rattle.cov_port.specs.Files.{OpensRose, ReadsRose, StoresRose}
 use Rattle.cov_port.specs.Sinks.{PutsAll, PutsPart}
 use Rattle.command_ending.specs.Answer.{Answer, absent}
 use Rattle.command_ending.specs.ErrorLines.{open_line, read_line, store_line, output_line}

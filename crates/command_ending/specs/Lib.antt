@@ -6,4 +6,5 @@ pub mod Ending
 pub mod World
 pub mod Leaves
 pub mod Stops
+pub mod Opening
 pub mod Finish

@@ -1,5 +1,5 @@
 -- Private: why a command stops before it has put or stored anything, step by step.
-use Rattle.std.specs.Prelude.{◌≡◌, ℕ, ◌<◌, Bool, true, false, List, length, Option, None, Some, IfSome, IsSomeAnd, Contains}
+use Rattle.std.specs.Prelude.{◌≡◌, ℕ, Bool, true, false, List, Option, None, IfSome, IsSomeAnd}
 use Rattle.cov_port.specs.Files.{Names, FileFaults, OpensRose, ReadsRose}
 use Rattle.command_ending.specs.Answer.{Answer, refused_with, absent}
 use Rattle.command_ending.specs.ErrorLines.{open_line, read_line}

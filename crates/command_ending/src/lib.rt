@@ -9,7 +9,7 @@ mod status;
 mod stores;
 
 pub use ending::Ending;
-pub use inputs::{are_too_many, take_input};
+pub use inputs::{are_too_many, open_input, take_input};
 pub use lines::append_number;
 pub use refusal::{bad_data, bad_design, over_limit};
 pub use status::Status;

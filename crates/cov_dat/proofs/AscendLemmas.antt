@@ -1,4 +1,30 @@
-use Rattle.std.proofs.Common.{◌≡◌, ℕ, zero, suc, ◌+◌, ◌≤◌, Bool, true, false, ◌&&◌, List, [], ◌∷◌, length, drop, slice_get, Some, Ordering, refl, sym, ap, ◌∙◌, subst, arith, T}
+use Rattle.std.proofs.Common.{
+  ◌≡◌,
+  ℕ,
+  zero,
+  suc,
+  ◌+◌,
+  ◌≤◌,
+  Bool,
+  true,
+  false,
+  ◌&&◌,
+  List,
+  [],
+  ◌∷◌,
+  length,
+  drop,
+  slice_get,
+  Some,
+  Ordering,
+  refl,
+  sym,
+  ap,
+  ◌∙◌,
+  subst,
+  arith,
+  T,
+}
 use Rattle.std.proofs.lemmas.Bool.{true≢false}
 use Rattle.std.specs.declared.cmp.Ordering.TheVariants.{Less, Equal, Greater}
 use Rattle.std.specs.Ordering.{nat_cmp, is_lt, is_ge}
@@ -75,5 +101,6 @@ sorted-step es n e f at after under sorted =
 -- entries that ascend are the entries of their map
 pub entries-sorted : (es : Counts) → is_sorted order es ≡ true → entries (count_map es) ≡ es
 entries-sorted es sorted =
-    same_entries order nat_list_cmp_total (slice_cmp-IsAntisymmetric nat_cmp-IsAntisymmetric) (entries (count_map es)) es (entries_sorted (count_map es)) (subst T (sym sorted) tt)
+    same_entries order nat_list_cmp_total (slice_cmp-IsAntisymmetric nat_cmp-IsAntisymmetric) (entries (count_map es)) es (entries_sorted (count_map es))
+    (subst T (sym sorted) tt)
     (λ q. sym (get-entries (count_map es) q) ∙ get-from_entries nat_list_cmp_total es q)

@@ -12,9 +12,11 @@ without key ks = filter (λ q. not (bytes_eq key q)) ks
 pub any-without : (q x : List ℕ) (ks : List (List ℕ)) → bytes_eq q x ≡ false → list_any (bytes_eq q) (without x ks) ≡ list_any (bytes_eq q) ks
 any-without q x [] apart = refl
 any-without q x (k ∷ ks) apart =
-    elim (bytes_eq x k) as (λ t. bytes_eq x k ≡ t → list_any (bytes_eq q) (cond (not t) (k ∷ without x ks) (without x ks)) ≡ (bytes_eq q k || list_any (bytes_eq q) ks)) [
+    elim (bytes_eq x k) as (λ t. bytes_eq x k ≡ t
+    → list_any (bytes_eq q) (cond (not t) (k ∷ without x ks) (without x ks)) ≡ (bytes_eq q k || list_any (bytes_eq q) ks)) [
       | true ↦ λ is.
-          let other : bytes_eq q k ≡ false = nat_list_eq_equiv.symm q k ∙ nat_list_eq_equiv.congr k x q (nat_list_eq_equiv.symm k x ∙ is) ∙ nat_list_eq_equiv.symm x q ∙ apart in
+          let other : bytes_eq q k ≡ false = nat_list_eq_equiv.symm q k ∙ nat_list_eq_equiv.congr k x q (nat_list_eq_equiv.symm k x ∙ is)
+          ∙ nat_list_eq_equiv.symm x q ∙ apart in
           any-without q x ks apart ∙ ap (λ (t : Bool). t || list_any (bytes_eq q) ks) (sym other)
       | false ↦ λ is. ap (λ (t : Bool). bytes_eq q k || t) (any-without q x ks apart)
     ] refl
@@ -32,7 +34,8 @@ any-first_keys q (k ∷ ks) =
 without-append : (x : List ℕ) (ks ls : List (List ℕ)) → without x (ks ++ ls) ≡ without x ks ++ without x ls
 without-append x [] ls = refl
 without-append x (k ∷ ks) ls =
-    elim (bytes_eq x k) as (λ t. cond (not t) (k ∷ without x (ks ++ ls)) (without x (ks ++ ls)) ≡ cond (not t) (k ∷ without x ks) (without x ks) ++ without x ls) [
+    elim (bytes_eq x k) as (λ t. cond (not t) (k ∷ without x (ks ++ ls)) (without x (ks ++ ls))
+    ≡ cond (not t) (k ∷ without x ks) (without x ks) ++ without x ls) [
       | true ↦ without-append x ks ls
       | false ↦ ap (λ (ms : List (List ℕ)). k ∷ ms) (without-append x ks ls)
     ]
@@ -68,7 +71,8 @@ first_keys-push [] k = refl
 first_keys-push (x ∷ ks) k =
     let fs = first_keys ks in
     ap (λ (ls : List (List ℕ)). x ∷ without x ls) (first_keys-push ks k)
-    ∙ elim (bytes_eq k x) as (λ t. bytes_eq k x ≡ t → x ∷ without x (with_key fs k) ≡ cond (t || list_any (bytes_eq k) (without x fs)) (x ∷ without x fs) (x ∷ without x fs ++ k ∷ [])) [
+    ∙ elim (bytes_eq k x) as (λ t. bytes_eq k x ≡ t
+    → x ∷ without x (with_key fs k) ≡ cond (t || list_any (bytes_eq k) (without x fs)) (x ∷ without x fs) (x ∷ without x fs ++ k ∷ [])) [
       | true ↦ λ is. ap (λ (ls : List (List ℕ)). x ∷ ls) (without-same (list_any (bytes_eq k) fs) x k fs (nat_list_eq_equiv.symm x k ∙ is))
       | false ↦ λ is. ap (λ (ls : List (List ℕ)). x ∷ ls) (without-other (list_any (bytes_eq k) fs) x k fs (nat_list_eq_equiv.symm x k ∙ is))
           ∙ ap (λ (t : Bool). x ∷ cond t (without x fs) (without x fs ++ k ∷ [])) (sym (any-without k x fs is))

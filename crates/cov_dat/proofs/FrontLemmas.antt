@@ -1,5 +1,39 @@
 -- A text past the limit on bytes reads as its front.
-use Rattle.std.proofs.Common.{◌≡◌, ℕ, zero, suc, ◌+◌, ◌-◌, ◌<◌, ◌≤◌, Bool, true, false, cond, eqb, ltb, List, [], ◌∷◌, ◌++◌, length, take, refl, sym, ◌∙◌, ap, Ok, Err, None, Some, arith, inl, inr, length-append, length-take}
+use Rattle.std.proofs.Common.{
+  ◌≡◌,
+  ℕ,
+  zero,
+  suc,
+  ◌+◌,
+  ◌-◌,
+  ◌<◌,
+  ◌≤◌,
+  Bool,
+  true,
+  false,
+  cond,
+  eqb,
+  ltb,
+  List,
+  [],
+  ◌∷◌,
+  ◌++◌,
+  length,
+  take,
+  refl,
+  sym,
+  ◌∙◌,
+  ap,
+  Ok,
+  Err,
+  None,
+  Some,
+  arith,
+  inl,
+  inr,
+  length-append,
+  length-take,
+}
 use Rattle.std.proofs.lemmas.Bool.{cases_lt, cases_Bool, eqb-true, lt-ltb, le-ltb}
 use Rattle.std.proofs.lemmas.List.{take_all, take-append-le}
 use Rattle.cov_port.specs.Lines.{Line, bytes_of, onto_line, lines_of}
@@ -90,9 +124,11 @@ ended_bytes line short = rw (le-ltb 65535 (length line) short) refl
 -- a line that ends is followed by what is read of the rest, where it isn't refused
 after_ended : (n before : ℕ) (line : List ℕ) (a b : List Says)
     → (length line ≤ 65535 → before + (length line + 1) ≤ 4294967296 → reading_of a ≡ reading_of b)
-    → reading_of (says_within (before + bytes_of (line, true)) n (line, true) ∷ a) ≡ reading_of (says_within (before + bytes_of (line, true)) n (line, true) ∷ b)
+    → reading_of (says_within (before + bytes_of (line, true)) n (line, true) ∷ a)
+    ≡ reading_of (says_within (before + bytes_of (line, true)) n (line, true) ∷ b)
 after_ended n before line a b same = elim (cases_lt 4294967296 (before + bytes_of (line, true))) [
-  | inl past ↦ reading_of-refused (says_within (before + bytes_of (line, true)) n (line, true)) (Limit DataBytes) a b (rw (lt-ltb 4294967296 (before + bytes_of (line, true)) past) refl)
+  | inl past ↦ reading_of-refused (says_within (before + bytes_of (line, true)) n (line, true)) (Limit DataBytes) a b
+      (rw (lt-ltb 4294967296 (before + bytes_of (line, true)) past) refl)
   | inr within ↦ elim (cases_lt 65535 (length line)) [
     | inl long ↦ reading_of-refused (says_within (before + bytes_of (line, true)) n (line, true)) (LineTooLong n) a b
         (rw (le-ltb 4294967296 (before + bytes_of (line, true)) within, lt-ltb 65535 (length line) long) refl)
@@ -149,7 +185,8 @@ by_front : (fuel n before k : ℕ) (text : List ℕ) → FirstLine text → leng
     → reading_from n before (take k text) ≡ reading_from n before text
 by_front zero n before k text first most start past = ap (reading_from n before) (take_all k text (omega arith))
 by_front (suc fuel) n before k text (open_line u) most start past = elim (cases_lt k (length text)) [
-  | inl inside ↦ inside_first n before k text text (text, false) _ u (omega arith) (omega arith) past refl refl (ap (all_say n before) (some_line text (omega arith) u))
+  | inl inside ↦ inside_first n before k text text (text, false) _ u (omega arith) (omega arith) past refl refl
+      (ap (all_say n before) (some_line text (omega arith) u))
   | inr whole ↦ ap (reading_from n before) (take_all k text whole)
 ]
 by_front (suc fuel) n before k text (ended line rest is u) most start past = rw is (elim (cases_lt (length line) k) [

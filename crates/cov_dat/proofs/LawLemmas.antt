@@ -13,7 +13,19 @@ use Rattle.cov_dat.specs.DataText.{count_map}
 use Rattle.cov_dat.specs.Laws.{AddsOneByOne, InAnyOrder, FilesInAnyOrder, all_records}
 use Rattle.cov_dat.specs.declared.record_list.Record.{Record}
 use Rattle.cov_dat.proofs.FirstKeyLemmas.{any-first_keys, first_keys-distinct, first_keys-push, with_key}
-use Rattle.cov_dat.proofs.WeightLemmas.{any-presence, merged_count-share, merged_count-with, presence, share, share-absent, weight, weight-IsPermutation, weight-all_records, with_record, zero_more}
+use Rattle.cov_dat.proofs.WeightLemmas.{
+  any-presence,
+  merged_count-share,
+  merged_count-with,
+  presence,
+  share,
+  share-absent,
+  weight,
+  weight-IsPermutation,
+  weight-all_records,
+  with_record,
+  zero_more,
+}
 
 -- keys with their values
 abbrev counted : (List ℕ → ℕ) → List (List ℕ) → Counts
@@ -24,7 +36,8 @@ abbrev raised : (List ℕ → ℕ) → List ℕ → ℕ → List ℕ → ℕ
 raised f k count q = cond (bytes_eq q k) (saturated (f q + count)) (f q)
 
 -- a count more at a key leaves keys that are not it
-counted-apart : (f : List ℕ → ℕ) (k : List ℕ) (count : ℕ) (ks : List (List ℕ)) → AllByRecursion (λ y. bytes_eq k y ≡ false) ks → counted f ks ≡ counted (raised f k count) ks
+counted-apart : (f : List ℕ → ℕ) (k : List ℕ) (count : ℕ) (ks : List (List ℕ)) → AllByRecursion (λ y. bytes_eq k y ≡ false) ks
+    → counted f ks ≡ counted (raised f k count) ks
 counted-apart f k count [] apart = refl
 counted-apart f k count (x ∷ ks) apart =
     let other : bytes_eq x k ≡ false = nat_list_eq_equiv.symm x k ∙ apart.0 in
@@ -38,10 +51,12 @@ unfolding IsDistinct
 added-counted f k count [] distinct among = absurd (false≢true among)
 added-counted f k count (x ∷ ks) distinct among =
     elim (bytes_eq k x) as (λ t. bytes_eq k x ≡ t → (t || list_any (bytes_eq k) ks) ≡ true
-    → (x, raised f k count x) ∷ counted (raised f k count) ks ≡ cond t ((x, saturated (f x + count)) ∷ counted f ks) ((x, f x) ∷ added (counted f ks) k count)) [
+    → (x, raised f k count x) ∷ counted (raised f k count) ks
+    ≡ cond t ((x, saturated (f x + count)) ∷ counted f ks) ((x, f x) ∷ added (counted f ks) k count)) [
       | true ↦ λ is h.
           let same : k ≡ x = (bytes_eq-Decides k x).0 is in
-          let apart : AllByRecursion (λ y. bytes_eq k y ≡ false) ks = subst (λ (z : List ℕ). AllByRecursion (λ y. bytes_eq z y ≡ false) ks) (sym same) distinct.0 in
+          let apart : AllByRecursion (λ y. bytes_eq k y ≡ false) ks = subst (λ (z : List ℕ). AllByRecursion (λ y. bytes_eq z y ≡ false) ks) (sym same)
+          distinct.0 in
           ap (λ (t : Bool). (x, cond t (saturated (f x + count)) (f x)) ∷ counted (raised f k count) ks) (nat_list_eq_equiv.symm x k ∙ is)
           ∙ ap (λ (es : Counts). (x, saturated (f x + count)) ∷ es) (sym (counted-apart f k count ks apart))
       | false ↦ λ is h.
@@ -53,10 +68,12 @@ added-counted f k count (x ∷ ks) distinct among =
 added-counted_new : (f : List ℕ → ℕ) (k : List ℕ) (count : ℕ) (ks : List (List ℕ)) → f k ≡ 0 → list_any (bytes_eq k) ks ≡ false
     → counted (raised f k count) (ks ++ k ∷ []) ≡ added (counted f ks) k count
 added-counted_new f k count [] none new =
-    ap (λ (t : Bool). (k, cond t (saturated (f k + count)) (f k)) ∷ []) ((bytes_eq-Decides k k).1 refl) ∙ ap (λ (n : ℕ). (k, saturated (n + count)) ∷ []) none ∙ ap (λ (n : ℕ). (k, saturated n) ∷ []) (zero_more count)
+    ap (λ (t : Bool). (k, cond t (saturated (f k + count)) (f k)) ∷ []) ((bytes_eq-Decides k k).1 refl)
+    ∙ ap (λ (n : ℕ). (k, saturated (n + count)) ∷ []) none ∙ ap (λ (n : ℕ). (k, saturated n) ∷ []) (zero_more count)
 added-counted_new f k count (x ∷ ks) none new =
     elim (bytes_eq k x) as (λ t. bytes_eq k x ≡ t → (t || list_any (bytes_eq k) ks) ≡ false
-    → (x, raised f k count x) ∷ counted (raised f k count) (ks ++ k ∷ []) ≡ cond t ((x, saturated (f x + count)) ∷ counted f ks) ((x, f x) ∷ added (counted f ks) k count)) [
+    → (x, raised f k count x) ∷ counted (raised f k count) (ks ++ k ∷ [])
+    ≡ cond t ((x, saturated (f x + count)) ∷ counted f ks) ((x, f x) ∷ added (counted f ks) k count)) [
       | true ↦ λ is h. absurd (true≢false h)
       | false ↦ λ is h.
           ap (λ (t : Bool). (x, cond t (saturated (f x + count)) (f x)) ∷ counted (raised f k count) (ks ++ k ∷ [])) (nat_list_eq_equiv.symm x k ∙ is)
@@ -67,7 +84,8 @@ added-counted_new f k count (x ∷ ks) none new =
 added-counted_either : (f : List ℕ → ℕ) (k : List ℕ) (count : ℕ) (ks : List (List ℕ)) → IsDistinct bytes_eq ks → (list_any (bytes_eq k) ks ≡ false → f k ≡ 0)
     → counted (raised f k count) (with_key ks k) ≡ added (counted f ks) k count
 added-counted_either f k count ks distinct none =
-    elim (list_any (bytes_eq k) ks) as (λ t. list_any (bytes_eq k) ks ≡ t → counted (raised f k count) (cond t ks (ks ++ k ∷ [])) ≡ added (counted f ks) k count) [
+    elim (list_any (bytes_eq k) ks) as (λ t. list_any (bytes_eq k) ks ≡ t
+    → counted (raised f k count) (cond t ks (ks ++ k ∷ [])) ≡ added (counted f ks) k count) [
       | true ↦ λ is. added-counted f k count ks distinct is
       | false ↦ λ is. added-counted_new f k count ks (none is) is
     ] refl
@@ -93,11 +111,13 @@ adds_one_by_one rs r =
     (λ h. merged_count-share rs r.key ∙ ap saturated (share-absent r.key rs (sym (any-first_keys r.key keys) ∙ h)))
 
 -- the value of a key among keys with their values
-find-counted : (f : List ℕ → ℕ) (q : List ℕ) (ks : List (List ℕ)) → find (slice_cmp nat_cmp) q (counted f ks) ≡ cond (list_any (bytes_eq q) ks) (Some (f q)) None
+find-counted : (f : List ℕ → ℕ) (q : List ℕ) (ks : List (List ℕ))
+    → find (slice_cmp nat_cmp) q (counted f ks) ≡ cond (list_any (bytes_eq q) ks) (Some (f q)) None
 find-counted f q [] = refl
 find-counted f q (k ∷ ks) =
     ap (λ (t : Bool). cond t (Some (f k)) (find (slice_cmp nat_cmp) q (counted f ks))) (is_eq-slice_cmp q k)
-    ∙ elim (bytes_eq q k) as (λ t. bytes_eq q k ≡ t → cond t (Some (f k)) (find (slice_cmp nat_cmp) q (counted f ks)) ≡ cond (t || list_any (bytes_eq q) ks) (Some (f q)) None) [
+    ∙ elim (bytes_eq q k) as (λ t. bytes_eq q k ≡ t
+    → cond t (Some (f k)) (find (slice_cmp nat_cmp) q (counted f ks)) ≡ cond (t || list_any (bytes_eq q) ks) (Some (f q)) None) [
       | true ↦ λ is. ap (λ (z : List ℕ). Some (f z)) (sym ((bytes_eq-Decides q k).0 is))
       | false ↦ λ is. find-counted f q ks
     ] refl
@@ -120,7 +140,8 @@ found-weights rs qs same q = rw (any-presence q rs, any-presence q qs, merged_co
 -- records with the same weights merge to the same map
 same_weights : (rs qs : List Record) → ((f : Record → ℕ) → weight f rs ≡ weight f qs) → count_map (merged rs) ≡ count_map (merged qs)
 same_weights rs qs same = same_map nat_list_cmp_total (slice_cmp-IsAntisymmetric nat_cmp-IsAntisymmetric) _ _
-    (λ q. get-from_entries nat_list_cmp_total (merged rs) q ∙ find-merged rs q ∙ found-weights rs qs same q ∙ sym (get-from_entries nat_list_cmp_total (merged qs) q ∙ find-merged qs q))
+    (λ q. get-from_entries nat_list_cmp_total (merged rs) q ∙ find-merged rs q ∙ found-weights rs qs same q
+    ∙ sym (get-from_entries nat_list_cmp_total (merged qs) q ∙ find-merged qs q))
 
 pub in_any_order : InAnyOrder
 in_any_order rs qs p = same_weights rs qs (λ f. weight-IsPermutation f rs qs p)

@@ -1,8 +1,12 @@
+pub mod AdditionLemmas
 pub mod AscendLemmas
 pub mod FaultLemmas
+pub mod FileFaultLemmas
 pub mod FirstKeyLemmas
 pub mod FrontLemmas
 pub mod LawLemmas
+pub mod LimitLemmas
+pub mod LineByLine
 pub mod QuoteLemmas
 pub mod MergingLemmas
 pub mod SortLemmas

@@ -1,4 +1,34 @@
-use Rattle.std.proofs.Common.{◌≡◌, ℕ, zero, suc, ◌+◌, ◌^◌, ◌<◌, true, false, not, cond, is_some, ◌||◌, length, arith, List, [], ◌∷◌, ◌++◌, slice_get, refl, sym, ◌∙◌, ap, subst, Option, None, Some, option_map}
+use Rattle.std.proofs.Common.{
+  ◌≡◌,
+  ℕ,
+  zero,
+  suc,
+  ◌+◌,
+  ◌^◌,
+  ◌<◌,
+  true,
+  false,
+  not,
+  cond,
+  is_some,
+  ◌||◌,
+  length,
+  arith,
+  List,
+  [],
+  ◌∷◌,
+  ◌++◌,
+  slice_get,
+  refl,
+  sym,
+  ◌∙◌,
+  ap,
+  subst,
+  Option,
+  None,
+  Some,
+  option_map,
+}
 use Rattle.std.specs.Str.{bytes_eq}
 use Rattle.std.specs.List.{AllByRecursion, IsDistinct, list_any}
 use Rattle.std.specs.Map.{lookup, values_of}
@@ -28,7 +58,8 @@ added-present (e ∷ es) key count has =
     elim (bytes_eq key e.0) as (λ t. is_some (cond t (Some e.1) (lookup (bytes_eq key) es)) ≡ true
     → cond t ((e.0, saturated (e.1 + count)) ∷ es) (e ∷ added es key count) ≡ raised_at (e ∷ es) (cond (not t) (1 + number_of es key) 0) count) [
       | true ↦ λ h. refl
-      | false ↦ λ h. let next : 1 + number_of es key ≡ suc (number_of es key) = omega arith in rw next (ap (λ (xs : Counts). e ∷ xs) (added-present es key count h))
+      | false ↦ λ h. let next : 1 + number_of es key
+          ≡ suc (number_of es key) = omega arith in rw next (ap (λ (xs : Counts). e ∷ xs) (added-present es key count h))
     ] has
 
 -- a new key goes last
@@ -82,7 +113,8 @@ key_bytes-pushed [] key count = omega arith
 key_bytes-pushed (e ∷ es) key count = let rest = key_bytes-pushed es key count in omega arith
 
 -- the limit that a key more passes
-pub limit_passed-pushed : (es : Counts) (key : List ℕ) (count : ℕ) → limit_passed (es ++ (key, count) ∷ []) ≡ limit_at (length es + 1) (key_bytes es + length key)
+pub limit_passed-pushed : (es : Counts) (key : List ℕ) (count : ℕ)
+    → limit_passed (es ++ (key, count) ∷ []) ≡ limit_at (length es + 1) (key_bytes es + length key)
 limit_passed-pushed es key count = rw (length-pushed es key count, key_bytes-pushed es key count) refl
 
 -- a key that stands passes no limit anew
@@ -90,7 +122,8 @@ pub limit_passed-present : (es : Counts) (key : List ℕ) (count : ℕ) → has_
 limit_passed-present es key count has = ap limit_passed (added-present es key count has) ∙ limit_passed-raised es (number_of es key) count
 
 -- a new key counts once more, with its bytes
-pub limit_passed-new : (es : Counts) (key : List ℕ) (count : ℕ) → has_key es key ≡ false → limit_passed (added es key count) ≡ limit_at (length es + 1) (key_bytes es + length key)
+pub limit_passed-new : (es : Counts) (key : List ℕ) (count : ℕ) → has_key es key ≡ false
+    → limit_passed (added es key count) ≡ limit_at (length es + 1) (key_bytes es + length key)
 limit_passed-new es key count new = ap limit_passed (added-new es key count new) ∙ limit_passed-pushed es key (saturated count)
 
 -- the same of numbers that were counted
@@ -99,7 +132,8 @@ pub limit_passed-counted : (es : Counts) (key : List ℕ) (count keys bytes : �
 limit_passed-counted es key count keys bytes new len held = rw (len, held) (limit_passed-new es key count new)
 
 -- to raise a key that stands is to add
-pub raised-is-added : (es : Counts) (key : List ℕ) (number count : ℕ) → number_of es key ≡ number → has_key es key ≡ true → raised_at es number count ≡ added es key count
+pub raised-is-added : (es : Counts) (key : List ℕ) (number count : ℕ) → number_of es key ≡ number → has_key es key ≡ true
+    → raised_at es number count ≡ added es key count
 raised-is-added es key number count is has = sym (added-present es key count has ∙ ap (λ (n : ℕ). raised_at es n count) is)
 
 -- to append a new key is to add
@@ -116,7 +150,8 @@ none_is None h = refl
 none_is (Some x) h = absurd (true≢false h)
 
 -- what holds of all keys and of the added one holds of all afterwards
-pub all-added : (P : List ℕ → Type 0) (es : Counts) (key : List ℕ) (count : ℕ) → AllByRecursion (λ e. P e.0) es → P key → AllByRecursion (λ e. P e.0) (added es key count)
+pub all-added : (P : List ℕ → Type 0) (es : Counts) (key : List ℕ) (count : ℕ) → AllByRecursion (λ e. P e.0) es → P key
+    → AllByRecursion (λ e. P e.0) (added es key count)
 all-added P [] key count all holds = (holds, tt)
 all-added P (e ∷ es) key count all holds =
     elim (bytes_eq key e.0) as (λ t. AllByRecursion (λ x. P x.0) (cond t ((e.0, saturated (e.1 + count)) ∷ es) (e ∷ added es key count))) [
@@ -131,7 +166,8 @@ holds-at P (y ∷ ys) zero x all at = let same : y ≡ x = cc in subst P same al
 holds-at P (y ∷ ys) (suc i) x all at = holds-at P ys i x all.1 at
 
 -- a key that stands at a number has that number
-pub number_of-at : (es : Counts) (i count : ℕ) (key : List ℕ) → IsDistinct bytes_eq (keys_of es) → slice_get es i ≡ Some (key, count) → (number_of es key ≡ i) × (has_key es key ≡ true)
+pub number_of-at : (es : Counts) (i count : ℕ) (key : List ℕ) → IsDistinct bytes_eq (keys_of es) → slice_get es i ≡ Some (key, count)
+    → (number_of es key ≡ i) × (has_key es key ≡ true)
 unfolding IsDistinct
 number_of-at [] i count key distinct at = absurd (cc)
 number_of-at (e ∷ es) zero count key distinct at =

@@ -1,11 +1,44 @@
 -- Patterns, sign by sign.
-use Rattle.std.proofs.Common.{◌≡◌, ℕ, zero, suc, ◌+◌, ◌<◌, ◌≤◌, Bool, true, false, cond, not, ◌||◌, ◌&&◌, eqb, List, [], ◌∷◌, ◌++◌, length, drop, refl, sym, ◌∙◌, ap, arith, append_assoc, length-append, inl, inr, subst, get_or}
-use Rattle.std.specs.List.{list_any, list_all}
+use Rattle.std.proofs.Common.{
+  ◌≡◌,
+  ℕ,
+  zero,
+  suc,
+  ◌+◌,
+  ◌<◌,
+  ◌≤◌,
+  Bool,
+  true,
+  false,
+  cond,
+  not,
+  ◌||◌,
+  ◌&&◌,
+  eqb,
+  List,
+  [],
+  ◌∷◌,
+  ◌++◌,
+  length,
+  drop,
+  refl,
+  sym,
+  ◌∙◌,
+  ap,
+  arith,
+  append_assoc,
+  length-append,
+  inl,
+  inr,
+  subst,
+  get_or,
+}
+use Rattle.std.specs.List.{list_any}
 use Rattle.std.proofs.lemmas.Bool.{false≢true, cases_Bool}
 use Rattle.std.proofs.lemmas.List.{drop-drop, drop_all, drop_more}
 use Rattle.std.proofs.lemmas.List.Folds.{list_all-append}
 use Rattle.std.proofs.Math.Seq.{drop-append-add}
-use Rattle.cov_dat.specs.Patterns.{begins, is_empty, spells, tails}
+use Rattle.cov_dat.specs.Patterns.{begins, spells, tails}
 use Rattle.cov_dat.specs.FrontFits.{FrontFits, has_no_star, spells_from}
 
 -- a sign that is no star spells one byte
@@ -42,7 +75,8 @@ and_second true u is = is
 and_second false u is = absurd (false≢true is)
 
 -- signs without a star take as many bytes off
-pub signs_take : (signs pattern text : List ℕ) → has_no_star signs ≡ true → spells (signs ++ pattern) text ≡ true → spells pattern (drop (length signs) text) ≡ true
+pub signs_take : (signs pattern text : List ℕ) → has_no_star signs ≡ true → spells (signs ++ pattern) text ≡ true
+    → spells pattern (drop (length signs) text) ≡ true
 signs_take [] pattern text none is = is
 signs_take (c ∷ signs) pattern [] none is =
     let first = split_test (eqb c 42) (has_no_star signs) none in
@@ -72,7 +106,8 @@ same_tests false true there back = back refl
 same_tests false false there back = refl
 
 -- a star in front of signs that fit up to the next star
-pub star_front : (pattern text left text_left : List ℕ) → FrontFits pattern text (42 ∷ left) text_left → spells (42 ∷ pattern) text ≡ spells (42 ∷ left) text_left
+pub star_front : (pattern text left text_left : List ℕ) → FrontFits pattern text (42 ∷ left) text_left
+    → spells (42 ∷ pattern) text ≡ spells (42 ∷ left) text_left
 star_front pattern text left text_left fits = same_tests (spells (42 ∷ pattern) text) (spells (42 ∷ left) text_left)
     (λ is.
     let place = star_place pattern text is in
@@ -80,7 +115,8 @@ star_front pattern text left text_left fits = same_tests (spells (42 ∷ pattern
     let taken : spells (42 ∷ left) (drop (length fits.signs) (drop k text)) ≡ true =
     signs_take fits.signs (42 ∷ left) (drop k text) fits.no_star (ap (λ (ps : List ℕ). spells ps (drop k text)) (sym fits.pattern_split) ∙ place.1) in
     let both : drop (length fits.signs) (drop k text) ≡ drop k text_left =
-    drop-drop (length fits.signs) k text ∙ ap (λ (n : ℕ). drop n text) (let e : k + length fits.signs ≡ length fits.bytes + k = omega (arith, fits.as_many) in e)
+    drop-drop (length fits.signs) k text ∙ ap (λ (n : ℕ). drop n text)
+    (let e : k + length fits.signs ≡ length fits.bytes + k = omega (arith, fits.as_many) in e)
     ∙ ap (drop (length fits.bytes + k)) fits.text_split ∙ drop-append-add fits.bytes text_left k in
     star_earlier k left text_left (ap (spells (42 ∷ left)) (sym both) ∙ taken))
     (λ is. star_now pattern text (fits.same ∙ is))
@@ -155,12 +191,15 @@ pub fits_step : (pattern text : List ℕ) (at : ℕ) → FrontFits pattern text 
     → eqb (get_or pattern at 0) 42 ≡ false → (eqb (get_or pattern at 0) 63 || eqb (get_or pattern at 0) (get_or text at 0)) ≡ true
     → FrontFits pattern text (drop (at + 1) pattern) (drop (at + 1) text)
 fits_step pattern text at fits within inside other same =
-    fits_more pattern text (get_or pattern at 0) (get_or text at 0) (drop (at + 1) pattern) (drop (at + 1) text) (both_next pattern text at fits within inside) other same
+    fits_more pattern text (get_or pattern at 0) (get_or text at 0) (drop (at + 1) pattern) (drop (at + 1) text)
+    (both_next pattern text at fits within inside) other same
 
 pub misfit_step : (pattern text : List ℕ) (at : ℕ) → FrontFits pattern text (drop at pattern) (drop at text) → at < length pattern → at < length text
-    → eqb (get_or pattern at 0) 42 ≡ false → (eqb (get_or pattern at 0) 63 || eqb (get_or pattern at 0) (get_or text at 0)) ≡ false → spells pattern text ≡ false
+    → eqb (get_or pattern at 0) 42 ≡ false → (eqb (get_or pattern at 0) 63 || eqb (get_or pattern at 0) (get_or text at 0)) ≡ false
+    → spells pattern text ≡ false
 misfit_step pattern text at fits within inside other apart =
-    misfits pattern text (get_or pattern at 0) (get_or text at 0) (drop (at + 1) pattern) (drop (at + 1) text) (both_next pattern text at fits within inside) other apart
+    misfits pattern text (get_or pattern at 0) (get_or text at 0) (drop (at + 1) pattern) (drop (at + 1) text) (both_next pattern text at fits within inside)
+    other apart
 
 pub misfit_end : (pattern text : List ℕ) (at : ℕ) → FrontFits pattern text (drop at pattern) (drop at text) → at < length pattern → length text ≤ at
     → eqb (get_or pattern at 0) 42 ≡ false → spells pattern text ≡ false
@@ -169,8 +208,10 @@ misfit_end pattern text at fits within past other =
     (subst (λ (left : List ℕ). FrontFits pattern text (get_or pattern at 0 ∷ drop (at + 1) pattern) left) (drop_all at text past)
     (subst (λ (left : List ℕ). FrontFits pattern text left (drop at text)) (drop_more pattern at 0 within) fits)) other
 
-pub whole_fits : (pattern text : List ℕ) (at : ℕ) → FrontFits pattern text (drop at pattern) (drop at text) → length pattern ≤ at → length text ≤ at → spells pattern text ≡ true
+pub whole_fits : (pattern text : List ℕ) (at : ℕ) → FrontFits pattern text (drop at pattern) (drop at text) → length pattern ≤ at → length text ≤ at
+    → spells pattern text ≡ true
 whole_fits pattern text at fits done past = fits.same ∙ rw (drop_all at pattern done, drop_all at text past) refl
 
-pub rest_misfits : (pattern text : List ℕ) (at : ℕ) → FrontFits pattern text (drop at pattern) (drop at text) → length pattern ≤ at → at < length text → spells pattern text ≡ false
+pub rest_misfits : (pattern text : List ℕ) (at : ℕ) → FrontFits pattern text (drop at pattern) (drop at text) → length pattern ≤ at → at < length text
+    → spells pattern text ≡ false
 rest_misfits pattern text at fits done inside = fits.same ∙ rw (drop_all at pattern done, drop_more text at 0 inside) refl

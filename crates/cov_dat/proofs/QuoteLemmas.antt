@@ -1,5 +1,5 @@
 -- Where the last quote stands.
-use Rattle.std.proofs.Common.{◌≡◌, ℕ, zero, suc, ◌<◌, ◌≤◌, Bool, true, false, cond, eqb, List, [], ◌∷◌, length, take, drop, refl, ◌∙◌, ap, None, Some, arith}
+use Rattle.std.proofs.Common.{◌≡◌, ℕ, zero, suc, ◌<◌, ◌≤◌, true, eqb, List, [], ◌∷◌, length, take, drop, refl, None, Some, arith}
 use Rattle.std.specs.Prelude.{slice_index}
 use Rattle.cov_port.proofs.LineLemmas.{Misses, misses}
 use Rattle.cov_dat.specs.DataLine.{at_last_quote}
@@ -14,4 +14,5 @@ pub at_last_quote-some : (bs : List ℕ) (i : ℕ) → i < length bs → eqb (sl
     → at_last_quote bs ≡ Some (take i bs, drop (suc i) bs)
 at_last_quote-some [] i below here miss = absurd (omega arith)
 at_last_quote-some (b ∷ bs) zero below here miss = rw (at_last_quote-none bs (λ k less. miss (suc k) (omega arith) (omega arith)), here) refl
-at_last_quote-some (b ∷ bs) (suc i) below here miss = rw (at_last_quote-some bs i (omega arith) here (λ k from less. miss (suc k) (omega arith) (omega arith))) refl
+at_last_quote-some (b ∷ bs) (suc i) below here miss = rw
+    (at_last_quote-some bs i (omega arith) here (λ k from less. miss (suc k) (omega arith) (omega arith))) refl

@@ -13,10 +13,12 @@ abbrev pub by_bytes : Bor (List ℕ) → Bor (List ℕ) → Ordering
 by_bytes a b = slice_cmp nat_cmp a.now b.now
 
 -- to insert a borrowed key is to put the key itself
-pub put_seen : (es : List (Bor (List ℕ) × ℕ)) (k : Bor (List ℕ)) (v : ℕ) → seen_sorted (insert_entry by_bytes es k v) ≡ put (slice_cmp nat_cmp) k.now v (seen_sorted es)
+pub put_seen : (es : List (Bor (List ℕ) × ℕ)) (k : Bor (List ℕ)) (v : ℕ)
+    → seen_sorted (insert_entry by_bytes es k v) ≡ put (slice_cmp nat_cmp) k.now v (seen_sorted es)
 put_seen [] k v = refl
 put_seen (e ∷ es) k v = elim (by_bytes k e.0) as (λ o. seen_sorted (match_ordering o ((k, v) ∷ e ∷ es) ((e.0, v) ∷ es) (e ∷ insert_entry by_bytes es k v))
-    ≡ by_order o ((k.now, v) ∷ (e.0.now, e.1) ∷ seen_sorted es) ((e.0.now, v) ∷ seen_sorted es) ((e.0.now, e.1) ∷ put (slice_cmp nat_cmp) k.now v (seen_sorted es))) [
+    ≡ by_order o ((k.now, v) ∷ (e.0.now, e.1) ∷ seen_sorted es) ((e.0.now, v) ∷ seen_sorted es)
+    ((e.0.now, e.1) ∷ put (slice_cmp nat_cmp) k.now v (seen_sorted es))) [
       | Less ↦ refl
       | Equal ↦ refl
       | Greater ↦ ap (λ (xs : Counts). (e.0.now, e.1) ∷ xs) (put_seen es k v)

@@ -1,8 +1,41 @@
 -- A data file read line by line.
-use Rattle.std.proofs.Common.{◌≡◌, ℕ, ◌+◌, ◌-◌, ◌<◌, ◌≤◌, Bool, true, false, cond, Option, None, Some, Result, Ok, Err, IfSome, IfOk, IfErr, OnOk, List, [], ◌∷◌, ◌++◌, length, map, take, refl, sym, ◌∙◌, ap, arith, length-append, append_assoc}
+use Rattle.std.proofs.Common.{
+  ◌≡◌,
+  ℕ,
+  ◌+◌,
+  ◌-◌,
+  ◌≤◌,
+  Bool,
+  true,
+  false,
+  Option,
+  None,
+  Some,
+  Result,
+  Ok,
+  Err,
+  IfSome,
+  IfOk,
+  IfErr,
+  OnOk,
+  List,
+  [],
+  ◌∷◌,
+  ◌++◌,
+  length,
+  map,
+  take,
+  refl,
+  sym,
+  ◌∙◌,
+  ap,
+  arith,
+  length-append,
+  append_assoc,
+}
 use Rattle.std.specs.Option.{option_map}
 use Rattle.std.proofs.lemmas.Bool.{le-ltb}
-use Rattle.std.proofs.lemmas.List.{append-nil, map-append}
+use Rattle.std.proofs.lemmas.List.{map-append}
 use Rattle.std.proofs.Math.Seq.{take-append_seam}
 use Rattle.cov_port.specs.Cutting.{Cutter, Gives, GivesTold, KeepsLeft, begins_long, bytes_given, left_of, lines_given}
 use Rattle.cov_port.specs.Lines.{Line, bytes_of, is_long, lines_of}
@@ -10,13 +43,12 @@ use Rattle.cov_port.specs.Sums.{total}
 use Rattle.cov_port.specs.declared.line_step.CutFault.{CutFault}
 use Rattle.cov_port.specs.declared.line_step.LineStep.{LineStep}
 use Rattle.cov_dat.specs.DataLine.{Says, says_within}
-use Rattle.cov_dat.specs.Reading.{all_say, nothing_read, only_fault, reading_from, reading_of, with_record}
+use Rattle.cov_dat.specs.Reading.{all_say, nothing_read, only_fault, reading_from, reading_of}
 use Rattle.cov_dat.specs.Streaming.{FaultOf, FollowsFault, IsFrugal, ReaderState, StandsIn, bytes_before_line, line_of}
 use Rattle.cov_dat.specs.Taking.{Comes, ComesTold, IsNext, IsStory, NamesLine, reading_here}
 use Rattle.cov_dat.specs.declared.fault.DataFault.{DataFault}
 use Rattle.cov_dat.specs.declared.key_place.LineStory.{LineStory}
 use Rattle.cov_dat.specs.declared.key_place.LineStory.TheVariants as story
-use Rattle.cov_dat.specs.declared.record_list.RecordList.{RecordList}
 
 -- what is read of a text is what its first line says, and what is read of the rest
 first_said : (n before : ℕ) (left rest : List ℕ) (l : Line) → lines_of left ≡ l ∷ lines_of rest
@@ -42,7 +74,8 @@ comes_line step ended comes line key count number bytes (Some left) after gives 
     let read = first_said number bytes left rest (line, ended) lines in (
       reading_from (number + 1) (bytes + bytes_of (line, ended)) rest,
       ap (option_map (reading_from (number + 1) (bytes + bytes_of (line, ended)))) gives.1,
-      rw read (said_story comes key count (says_within (bytes + bytes_of (line, ended)) number (line, ended)) (all_say (number + 1) (bytes + bytes_of (line, ended)) (lines_of rest)) said),
+      rw read (said_story comes key count (says_within (bytes + bytes_of (line, ended)) number (line, ended))
+          (all_say (number + 1) (bytes + bytes_of (line, ended)) (lines_of rest)) said),
     )
 
 -- one line that is refused
@@ -70,7 +103,8 @@ refused_long flaw number bytes (Some left) long says = long_first number bytes f
 
 -- the end of the file
 pub comes_end : (number bytes : ℕ) (key : List ℕ) (count : ℕ) (before after : Option (List ℕ)) (step : LineStep) (line : List ℕ)
-    → GivesTold step line before after → bytes_given step line ≡ [] → ((rest : List ℕ) → Gives step line rest rest → rest ≡ []) → reading_from number bytes [] ≡ nothing_read
+    → GivesTold step line before after → bytes_given step line ≡ [] → ((rest : List ℕ) → Gives step line rest rest → rest ≡ [])
+    → reading_from number bytes [] ≡ nothing_read
     → ComesTold story.End key count (option_map (reading_from number bytes) before) (option_map (reading_from number bytes) after)
 comes_end number bytes key count None after step line gives none empty read = tt
 comes_end number bytes key count (Some left) after step line gives none empty read =
@@ -179,7 +213,8 @@ pub tell_comes : (result : Result LineStory DataFault) (step : LineStep) (ended 
 tell_comes (Err flaw) step ended mid old new rest_old rest_new gives one number bytes is next = tt
 tell_comes (Ok comes) step ended mid old new rest_old rest_new gives one number bytes is next =
     rw (next.cutter, next.number, next.bytes_more, ← number, ← bytes)
-    (comes_line step ended comes mid.cutter.line new.key new.count mid.number mid.bytes (left_of old.cutter rest_old) (left_of mid.cutter rest_new) gives one is)
+    (comes_line step ended comes mid.cutter.line new.key new.count mid.number mid.bytes (left_of old.cutter rest_old) (left_of mid.cutter rest_new) gives one
+    is)
 
 pub tell_fault : (result : Result LineStory DataFault) (step : LineStep) (ended : Bool) (mid old : ReaderState) (rest_old rest_new : Option (List ℕ))
     → GivesTold step mid.cutter.line (left_of old.cutter rest_old) (left_of mid.cutter rest_new)
@@ -206,7 +241,8 @@ names_frugal : (number : Option ℕ) (text : List ℕ) (old : ReaderState) (step
     → GivesTold step line (left_of old.cutter rest_old) (left_of cutter rest_new) → length (bytes_given step line) + length cutter.ahead ≤ 65536
     → IfSome number (λ n. n ≡ old.number) → StandsIn text old rest_old → IfSome number (λ n. IsFrugal text rest_new n)
 names_frugal None text old step line cutter rest_old rest_new gives few names s = tt
-names_frugal (Some n) text old step line cutter rest_old rest_new gives few names s = frugal_line text old step line cutter rest_old rest_new n gives few names s
+names_frugal (Some n) text old step line cutter rest_old rest_new gives few names s = frugal_line text old step line cutter rest_old rest_new n gives few
+    names s
 
 -- how much was taken where the line that was given is refused, or the end of a file
 pub tell_frugal : (result : Result LineStory DataFault) (step : LineStep) (old : ReaderState) (cutter : Cutter) (rest_old rest_new : Option (List ℕ))

@@ -20,7 +20,8 @@ zero_more n = omega arith
 
 -- a rearrangement keeps each weight
 pub weight-IsPermutation : {X : Type 0} (f : X → ℕ) (xs ys : List X) → IsPermutation xs ys → weight f xs ≡ weight f ys
-weight-IsPermutation f xs ys p = is_sum_by (weight f) f refl (λ x xs. refl) xs ∙ sym (sum_by-IsPermutation f xs ys p) ∙ sym (is_sum_by (weight f) f refl (λ x xs. refl) ys)
+weight-IsPermutation f xs ys p = is_sum_by (weight f) f refl (λ x xs. refl) xs ∙ sym (sum_by-IsPermutation f xs ys p)
+    ∙ sym (is_sum_by (weight f) f refl (λ x xs. refl) ys)
 
 -- the weight of two lists is the sum of theirs
 pub weight-append : {X : Type 0} (f : X → ℕ) (xs ys : List X) → weight f (xs ++ ys) ≡ weight f xs + weight f ys
@@ -44,7 +45,8 @@ presence key r = cond (bytes_eq key r.key) 1 0
 pub total-share : (key : List ℕ) (rs : List Record) → total (map (λ r. r.count) (records_of key rs)) ≡ weight (share key) rs
 total-share key [] = refl
 total-share key (r ∷ rs) =
-    elim (bytes_eq key r.key) as (λ t. total (map (λ x. x.count) (cond t (r ∷ records_of key rs) (records_of key rs))) ≡ cond t r.count 0 + weight (share key) rs) [
+    elim (bytes_eq key r.key) as (λ t. total (map (λ x. x.count) (cond t (r ∷ records_of key rs) (records_of key rs)))
+    ≡ cond t r.count 0 + weight (share key) rs) [
       | true ↦ ap (λ (n : ℕ). r.count + n) (total-share key rs)
       | false ↦ total-share key rs ∙ sym (zero_more (weight (share key) rs))
     ]
@@ -83,7 +85,8 @@ with_record rs r key = cond (bytes_eq key r.key) (saturated (merged_count rs key
 pub merged_count-with : (rs : List Record) (r : Record) (key : List ℕ) → merged_count (rs ++ r ∷ []) key ≡ with_record rs r key
 merged_count-with rs r key =
     merged_count-share (rs ++ r ∷ []) key ∙ ap saturated (weight-append (share key) rs (r ∷ []))
-    ∙ elim (bytes_eq key r.key) as (λ t. saturated (weight (share key) rs + (cond t r.count 0 + 0)) ≡ cond t (saturated (merged_count rs key + r.count)) (merged_count rs key)) [
+    ∙ elim (bytes_eq key r.key) as (λ t. saturated (weight (share key) rs + (cond t r.count 0 + 0))
+    ≡ cond t (saturated (merged_count rs key + r.count)) (merged_count rs key)) [
       | true ↦ rw (merged_count-share rs key) (omega arith)
       | false ↦ rw (merged_count-share rs key) (omega arith)
     ]

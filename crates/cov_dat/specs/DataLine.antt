@@ -1,5 +1,28 @@
 -- What one line of a data file says (docs/formats.md, "Data file").
-use Rattle.std.specs.Prelude.{ℕ, ◌+◌, ◌-◌, ◌^◌, ◌==◌, ◌&&◌, Bool, true, not, nat_eq, nat_lt, List, [], ◌∷◌, length, drop, Option, None, Some, Result, Ok, Err, codes, if◌then◌else◌}
+use Rattle.std.specs.Prelude.{
+  ℕ,
+  ◌-◌,
+  ◌^◌,
+  ◌==◌,
+  ◌&&◌,
+  Bool,
+  true,
+  not,
+  nat_eq,
+  nat_lt,
+  List,
+  [],
+  ◌∷◌,
+  drop,
+  Option,
+  None,
+  Some,
+  Result,
+  Ok,
+  Err,
+  codes,
+  if◌then◌else◌,
+}
 use Rattle.std.specs.List.{starts_with}
 use Rattle.std.specs.Str.{bytes_eq}
 use Rattle.std.specs.Option.{option_map_or}

@@ -1,4 +1,4 @@
--- The fields of a key, one after the other (private).
+-- Private: the fields of a key, one after the other.
 use Rattle.std.specs.Prelude.{◌≡◌, ℕ, ◌==◌, true, List, [], ◌∷◌}
 
 -- a field begins here, or nothing is left

@@ -1,5 +1,5 @@
--- A pattern matched up to its first star (private).
-use Rattle.std.specs.Prelude.{◌≡◌, ℕ, ◌+◌, ◌<◌, ◌==◌, Bool, true, false, not, List, [], ◌∷◌, ◌++◌, length}
+-- Private: a pattern matched up to its first star.
+use Rattle.std.specs.Prelude.{◌≡◌, ℕ, ◌+◌, ◌<◌, ◌==◌, Bool, true, false, not, List, ◌∷◌, ◌++◌, length}
 use Rattle.std.specs.List.{list_all}
 use Rattle.cov_dat.specs.Patterns.{spells}
 use Rattle.cov_dat.specs.declared.front.Front.{Front}

@@ -1,6 +1,6 @@
 -- What is read from a key of the data file (docs/formats.md, "Data file").
-use Rattle.std.specs.Prelude.{ℕ, ◌==◌, ◌&&◌, ◌||◌, Bool, true, false, nat_eq, List, [], ◌∷◌, drop, find, codes, Option, None, Some, if◌then◌else◌}
-use Rattle.std.specs.List.{slice_split, before_first, after_first, starts_with, list_any}
+use Rattle.std.specs.Prelude.{ℕ, ◌==◌, nat_eq, List, [], drop, find, codes, Option, None, Some, if◌then◌else◌}
+use Rattle.std.specs.List.{slice_split, before_first, after_first, starts_with}
 use Rattle.std.specs.Option.{option_map, option_map_or}
 use Rattle.std.specs.Str.{bytes_eq}
 

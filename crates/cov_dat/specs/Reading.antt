@@ -1,6 +1,8 @@
 -- The records of a data file, and its first fault.
-use Rattle.std.specs.Prelude.{ℕ, ◌+◌, ◌==◌, List, [], ◌∷◌, Option, None, Some, Ok, Err, if◌then◌else◌}
+use Rattle.std.specs.Prelude.{ℕ, ◌+◌, ◌==◌, List, [], ◌∷◌, map, take, Option, None, Some, Ok, Err, if◌then◌else◌}
+use Rattle.std.specs.List.{enumerate_from}
 use Rattle.cov_port.specs.Lines.{Line, bytes_of, lines_of}
+use Rattle.cov_port.specs.Sums.{total}
 use Rattle.cov_dat.specs.DataLine.{Says, says_within}
 use Rattle.cov_dat.specs.declared.fault.DataFault.{DataFault}
 use Rattle.cov_dat.specs.declared.fault.DataFault.TheVariants.{BadHeader}
@@ -11,6 +13,15 @@ use Rattle.cov_dat.specs.declared.record_list.RecordList.{RecordList}
 abbrev pub all_say : ℕ → ℕ → List Line → List Says
 all_say n before [] = if n == 1 then Err (BadHeader 1) ∷ [] else []
 all_say n before (l ∷ ls) = says_within (before + bytes_of l) n l ∷ all_say (n + 1) (before + bytes_of l) ls
+
+-- what a line with its number says, the bytes being those of all lines up to it
+abbrev pub line_says : List Line → ℕ × Line → Says
+line_says ls l = says_within (total (map bytes_of (take l.0 ls))) l.0 l.1
+
+-- what the lines of a text say, each by itself; a text without a line lacks the header
+abbrev pub lines_say : List Line → List Says
+lines_say [] = Err (BadHeader 1) ∷ []
+lines_say (l ∷ ls) = map (line_says (l ∷ ls)) (enumerate_from 1 (l ∷ ls))
 
 -- the records before the first fault
 abbrev pub records_said : List Says → List Record

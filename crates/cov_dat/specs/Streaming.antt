@@ -1,7 +1,8 @@
 -- A data file read by lines, and how much of it is taken.
-use Rattle.std.specs.Prelude.{◌≡◌, ℕ, ◌+◌, ◌-◌, ◌≤◌, List, [], ◌++◌, length, map, take, slice_range, Option, None, Some, Result, Ok, Err, IfSome, OnOk}
+use Rattle.std.specs.Prelude.{◌≡◌, ℕ, ◌+◌, ◌-◌, ◌<◌, ◌≤◌, List, [], ◌++◌, length, map, take, Option, None, Some, IfSome}
 use Rattle.std.specs.Option.{option_map}
 use Rattle.cov_types.specs.Key.{IsKey}
+use Rattle.cov_types.specs.declared.limit.LimitName.TheVariants.{DataBytes}
 use Rattle.cov_port.specs.Cutting.{Cutter, fresh_cutter, left_of}
 use Rattle.cov_port.specs.Files.{FileFaults, ReadsRose}
 use Rattle.cov_port.specs.Lines.{Line, bytes_of, lines_of}
@@ -54,6 +55,25 @@ HasKey step.End key count = (key ≡ []) × (count ≡ 0)
 -- a fault is that of what was left to be read, unless a read failed
 abbrev pub FaultOf : Option RecordList → DataFault → Type 0
 FaultOf before flaw = (flaw ≡ fault.Failed → ⊥) → IfSome before (λ was. was ≡ only_fault flaw)
+
+-- a fault of a file, whatever it holds: a line from 1 on, a failed read, or the limit on bytes
+abbrev pub IsFileFault : DataFault → Type 0
+IsFileFault (fault.BadHeader n) = 1 ≤ n
+IsFileFault (fault.BadRecord n) = 1 ≤ n
+IsFileFault (fault.BadCount n) = 1 ≤ n
+IsFileFault (fault.LineTooLong n) = 1 ≤ n
+IsFileFault fault.Failed = Unit {0}
+IsFileFault (fault.Limit name) = name ≡ DataBytes
+
+-- a fault that isn't met again is such a one
+abbrev pub FirstFault : Option DataFault → DataFault → Type 0
+FirstFault None flaw = IsFileFault flaw
+FirstFault (Some before) flaw = Unit {0}
+
+-- a record takes bytes off
+abbrev pub TakesBytes : RecordStep → ℕ → ℕ → Type 0
+TakesBytes step.Record before now = before < now
+TakesBytes step.End before now = Unit {0}
 
 -- why a read may be told to have failed: a fault that stands comes again, and no call is made; else a read failed
 abbrev pub ReadFailedBy : Option DataFault → FileFaults → FileFaults → Type 0

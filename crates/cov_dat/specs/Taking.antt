@@ -1,5 +1,5 @@
--- What a reader does with one line (private).
-use Rattle.std.specs.Prelude.{◌≡◌, ℕ, ◌+◌, ◌<◌, ◌≤◌, Bool, true, false, List, [], length, take, slice_range, Option, None, Some, Result, Ok, Err, IfOk, IfSome}
+-- Private: what a reader does with one line.
+use Rattle.std.specs.Prelude.{◌≡◌, ℕ, ◌+◌, ◌<◌, ◌≤◌, Bool, true, false, List, [], length, take, slice_range, Option, None, Some, Result, Ok, Err, IfSome}
 use Rattle.std.specs.Option.{option_map}
 use Rattle.cov_types.specs.Key.{IsKey}
 use Rattle.cov_port.specs.Cutting.{left_of}
@@ -61,10 +61,10 @@ abbrev pub KeyIf : Bool → List ℕ → ℕ → Type 0
 KeyIf true key count = IsKey key
 KeyIf false key count = (key ≡ []) × (count ≡ 0)
 
--- a line that is skipped has bytes
+-- a line has bytes
 abbrev pub Moves : LineStory → ℕ → ℕ → Type 0
 Moves story.Nothing before now = before < now
-Moves story.Record before now = Unit {0}
+Moves story.Record before now = before < now
 Moves story.End before now = Unit {0}
 
 -- whether a line is a record, with its key and count, as what the line says

@@ -1,6 +1,6 @@
 ghost use Rattle.std.specs.Prelude.{◌≡◌, ◌≤◌, ◌<◌, ◌+◌, [], ◌++◌, List, ℕ, true, None, Some, Ok, Err, length, IfOk, IfErr, IfSome, IsErrOf, OnOk, OnErr};
 ghost use Rattle.cov_port.specs.Files.{ReadsRose};
-ghost use Rattle.cov_dat.specs.Streaming.{FaultOf, HasKey, IsFrugal, ReadFailedBy, StandsIn, TellsLeft, fresh_reader, line_of, reading_left};
+ghost use Rattle.cov_dat.specs.Streaming.{FaultOf, FirstFault, HasKey, IsFileFault, IsFrugal, ReadFailedBy, StandsIn, TakesBytes, TellsLeft, fresh_reader, line_of, reading_left};
 ghost use Rattle.cov_port.specs.Lines.{bytes_of};
 ghost use Rattle.cov_dat.specs.DataLine.{says_within};
 ghost use Rattle.cov_dat.specs.Reading.{nothing_read, only_fault, reading_from};
@@ -81,7 +81,12 @@ impl DataReader {
         ensures step { IfOk result (λ step. TellsLeft step self.new.key self.new.count (reading_left self.old (F.rest files.old)) (reading_left self.new (F.rest files.new))) }
         ensures key { IfOk result (λ step. HasKey step self.new.key self.new.count) }
         ensures fault { IfErr result (λ flaw. FaultOf (reading_left self.old (F.rest files.old)) flaw) }
+        ensures names { IfErr result (λ flaw. FirstFault self.old.fault flaw) }
         ensures goes_on { OnOk result (self.new.fault ≡ None) }
+
+        // Each record takes bytes off, and no file gives more than these: so it ends, also where its bytes aren't told.
+        ensures moves { IfOk result (λ step. TakesBytes step self.old.bytes self.new.bytes) }
+        ensures within { self.new.bytes ≤ 4294967296 }
 
         // A fault is answered again by every later call, and then no call is made on the files.
         ensures stays { IfErr result (λ flaw. self.new.fault ≡ Some flaw) }
@@ -128,6 +133,7 @@ impl DataReader {
         ensures key { IfOk result (λ story. KeyOf story self.new.key self.new.count) }
         ensures nothing { OnErr result ((self.new.key ≡ []) × (self.new.count ≡ 0)) }
         ensures fault { IfErr result (λ flaw. FaultOf (reading_here self.old (F.rest files.old)) flaw) }
+        ensures names { IfErr result IsFileFault }
         ensures goes_on { OnOk result (self.new.fault ≡ None) }
         ensures stays { IfErr result (λ flaw. self.new.fault ≡ Some flaw) }
         ensures moves { IfOk result (λ story. Moves story self.old.bytes self.new.bytes) }
@@ -219,6 +225,7 @@ impl DataReader {
         ensures ok { IfOk result (λ comes. (comes ≡ story.End) × (reading_from self.old.number self.old.bytes [] ≡ nothing_read) × (self.new ≡ self.old)) }
         ensures err { IfErr result (λ flaw. (reading_from self.old.number self.old.bytes [] ≡ only_fault flaw) × (self.new ≡ record self.old { fault = Some flaw })) }
         ensures line { IfErr result (λ flaw. NamesLine flaw self.old.number) }
+        ensures names { IfErr result IsFileFault }
         ensures within { self.new.bytes ≤ 4294967296 }
         ensures no_failure { IsErrOf result fault.Failed → ⊥ }
     {

@@ -25,7 +25,10 @@ pub use data_reader::DataReader;
 pub use fault::DataFault;
 pub use front_law::front_is_enough;
 pub use key_fields::{field, kind};
-pub use law::{adding_gives_the_sums, files_in_any_order, records_in_any_order};
+pub use law::{
+    adding_gives_the_sums, additions_in_any_order, files_in_any_order, limits_in_any_order,
+    limits_stay, reads_by_lines, records_in_any_order,
+};
 pub use merge_fault::MergeFault;
 pub use merged::Merged;
 pub use pattern::kept;

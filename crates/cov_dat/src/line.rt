@@ -4,6 +4,7 @@ ghost use Rattle.cov_types.specs.Key.{IsKey};
 ghost use Rattle.cov_dat.specs.DataLine.{at_last_quote, count_after, is_skipped, says, says_record, says_within};
 ghost use Rattle.cov_port.specs.Lines.{Line, bytes_of, is_long};
 ghost use Rattle.cov_dat.specs.Seen.{seen_line, seen_parts};
+ghost use Rattle.cov_dat.specs.Streaming.{IsFileFault};
 ghost use Rattle.cov_dat.specs.Taking.{IsFront, LiesIn, NamesLine, StandsAt, seen_place};
 
 use crate::fault::DataFault;
@@ -78,6 +79,7 @@ pub(crate) fn long_line(number: u64, before: u64) -> DataFault
     requires { before ≤ 4294967296 }
     ensures says { (l : Line) → is_long l ≡ true → says_within (before + bytes_of l) number l ≡ Err result }
     ensures line { NamesLine result number }
+    ensures names { 1 ≤ number → IsFileFault result }
     ensures no_failure { result ≡ DataFault.Failed → ⊥ }
 {
     if before + 65_536 > MOST_BYTES {

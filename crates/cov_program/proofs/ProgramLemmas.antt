@@ -1,6 +1,6 @@
 -- What words leave, by their task.
-use Rattle.std.proofs.Common.{◌≡◌, ℕ, false, List, refl, sym, ap, subst, Option, None, Some, Result, Ok, Err, arith}
-use Rattle.std.specs.Prelude.{OnOk, OnErr}
+use Rattle.std.proofs.Common.{◌≡◌, ℕ, false, List, refl, sym, ap, subst, ◌∙◌, Option, None, Some, Result, Ok, Err, arith}
+use Rattle.std.specs.Prelude.{IfSome, OnOk, OnErr}
 use Rattle.cov_port.specs.Causes.{Both, HasCause}
 use Rattle.cov_port.specs.Files.{Names, FileFaults}
 use Rattle.cov_port.specs.Sinks.{PutsAll, PutsPart}
@@ -11,16 +11,19 @@ use Rattle.command_ending.specs.Leaves.{IsSaid, Leaves}
 use Rattle.command_ending.specs.Promise.{Promise, IsLineOf}
 use Rattle.command_ending.specs.World.{World, world}
 use Rattle.command_ending.specs.declared.status.Status.{Status}
-use Rattle.command_ending.specs.declared.status.Status.TheVariants.{BadWords, NoMemory}
+use Rattle.command_ending.specs.declared.status.Status.TheVariants.{BadData, BadWords, Fault, NoMemory}
 use Rattle.command_ending.specs.Stops.{wants_memory}
 use Rattle.command_ending.specs.declared.ending.Ending.TheVariants as ending
 use Rattle.command_ending.proofs.PutLemmas.{always_told, if_told, puts_all_part, puts_none, stores_none}
 use Rattle.command_ending.proofs.StopLemmas.{stops_leave}
 use Rattle.command_check.specs.CheckPromise.{CheckRefuses, too_many, too_long, in_file, DesignRefuses, at_place, past_limit}
-use Rattle.command_cover.specs.MergePromise.{MergeRefuses, FileRefuses}
+use Rattle.command_cover.specs.Merge.{Merging}
+use Rattle.command_cover.specs.MergePromise.{MergeRefuses, FileRefuses, merge_promise}
 use Rattle.command_cover.specs.MergePromise as merge
+use Rattle.command_cover.specs.Sparing.{IsSparing, TakesFewOf}
 use Rattle.cov_program.specs.Promises.{no_promise, promise_of, task_promise}
-use Rattle.cov_program.specs.Words.{Task, task_of}
+use Rattle.cov_program.specs.Sparing.{TaskSpares}
+use Rattle.cov_program.specs.Words.{Task, checking, merging, task_of}
 
 -- what words promise is what their task does
 pub leaves_task : (words : List (List ℕ)) (task : Option Task) (said : List ℕ) (old new : World) (ended : Status) → task ≡ task_of words
@@ -79,3 +82,43 @@ pub said : {E : Type 0} (line : List ℕ) (before now : ℕ) (old new : Option (
     → OnErr result (Both (PutsPart line) old new) → HasCause before now result → IsSaid line before now old new
 said line before now old new (Ok v) put part cause = record { whole = λ calm. put; part = puts_all_part line old new put }
 said line before now old new (Err e) put part cause = let rose = cause.failed in record { whole = λ calm. absurd (omega arith); part = part }
+
+-- what a merge leaves is an answer, of whose line no more was taken
+pub merge_spares : (merge : Merging) (said : List ℕ) (old new : World) (ended : Status) (rest : Option (List ℕ)) → Leaves (merge_promise merge) said old new ended
+    → IsSparing merge.files ended said rest old.held → IfSome old.held (TaskSpares (Some (merging merge)) ended rest)
+merge_spares merge said old new ended rest leaves few = each old.held leaves few where
+  each : (told : Option Names) → Leaves (merge_promise merge) said (world told old.faults old.written old.put_faults) new ended → IsSparing merge.files ended said rest told
+      → IfSome told (TaskSpares (Some (merging merge)) ended rest)
+  each None is spares = tt
+  each (Some held) is spares = λ bad.
+      let left = is.answer (λ so. other_fault (sym bad ∙ so)) (λ so. other_want (sym bad ∙ so)) in
+      (left.0, left.1, subst (λ (line : List ℕ). TakesFewOf merge.files line rest held) left.2.line (spares bad)) where
+        other_fault : BadData ≡ Fault → ⊥
+        other_fault is = absurd (cc)
+
+        other_want : BadData ≡ NoMemory → ⊥
+        other_want is = absurd (cc)
+
+-- want of memory and bad words refuse no line
+pub want_is_no_line : NoMemory ≡ BadData → ⊥
+want_is_no_line is = absurd (cc)
+
+pub words_are_no_line : BadWords ≡ BadData → ⊥
+words_are_no_line is = absurd (cc)
+
+-- a status other than `BadData` spares nothing
+pub spares_nothing : (task : Option Task) (ended : Status) (rest : Option (List ℕ)) (told : Option Names) → (ended ≡ BadData → ⊥) → IfSome told (TaskSpares task ended rest)
+spares_nothing task ended rest None other = tt
+spares_nothing None ended rest (Some held) other = tt
+spares_nothing (Some (checking names)) ended rest (Some held) other = tt
+spares_nothing (Some (merging merge)) ended rest (Some held) other = λ bad. absurd (other bad)
+
+-- a check refuses no line of a data file
+pub check_spares : (names : List (List ℕ)) (ended : Status) (rest : Option (List ℕ)) (told : Option Names) → IfSome told (TaskSpares (Some (checking names)) ended rest)
+check_spares names ended rest None = tt
+check_spares names ended rest (Some held) = tt
+
+-- what the words ask for spares what their task does
+pub words_spare : (words : List (List ℕ)) (task : Option Task) (ended : Status) (rest : Option (List ℕ)) (told : Option Names) → task ≡ task_of words
+    → IfSome told (TaskSpares task ended rest) → IfSome told (TaskSpares (task_of words) ended rest)
+words_spare words task ended rest told same is = subst (λ (t : Option Task). IfSome told (TaskSpares t ended rest)) same is

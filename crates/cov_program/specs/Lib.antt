@@ -1,4 +1,5 @@
 pub mod Laws
 pub mod Promises
+pub mod Sparing
 pub mod Tasks
 pub mod Words

@@ -1,4 +1,4 @@
-ghost use Rattle.std.specs.Prelude.{◌≡◌, ◌↔◌, ℕ, List, None, map, string_bytes};
+ghost use Rattle.std.specs.Prelude.{◌≡◌, ◌↔◌, ℕ, List, None, Some, IfSome, map, string_bytes};
 ghost use Rattle.command_check.specs.CheckPromise.{check_promise};
 ghost use Rattle.command_cover.specs.Merge.{merge_to};
 ghost use Rattle.command_cover.specs.MergePromise.{merge_promise};
@@ -6,7 +6,8 @@ ghost use Rattle.command_ending.specs.Ending.{line_at, status_at};
 ghost use Rattle.command_ending.specs.Leaves.{IsSaid, Leaves};
 ghost use Rattle.command_ending.specs.World.{world};
 ghost use Rattle.cov_program.specs.Promises.{promise_of};
-ghost use Rattle.cov_program.specs.Words.{task_of};
+ghost use Rattle.cov_program.specs.Sparing.{TaskSpares};
+ghost use Rattle.cov_program.specs.Words.{merging, task_of};
 
 use crate::task::{Task, task_of};
 use command_check::check_files;
@@ -37,6 +38,9 @@ pub fn vcov<R: Threads + Sync, F: Files, O: Sink, E: Sink>(
         (world (F.held files.old) (F.faults files.old) (O.written out.old) (O.faults out.old))
         (world (F.held files.new) (F.faults files.new) (O.written out.new) (O.faults out.new)) result
         × IsSaid line (E.faults err.old) (E.faults err.new) (E.written err.old) (E.written err.new) }
+
+    // Of a data file that a merge refuses at a line no more is taken than the lines before it and one buffer.
+    ensures sparing { IfSome (F.held files.old) (TaskSpares (task_of (map string_bytes words.now.items)) result (F.rest files.new)) }
 {
     let _rt = rt;
     let ending = run(alloc, words.as_slice(), files, out);
@@ -50,6 +54,7 @@ fn run<F: Files, O: Sink>(alloc: Global, words: &[String], files: &mut F, out: &
     ensures leaves { Leaves (promise_of (map string_bytes words.now)) (line_at result)
         (world (F.held files.old) (F.faults files.old) (O.written out.old) (O.faults out.old))
         (world (F.held files.new) (F.faults files.new) (O.written out.new) (O.faults out.new)) (status_at result) }
+    ensures sparing { IfSome (F.held files.old) (TaskSpares (task_of (map string_bytes words.now)) (status_at result) (F.rest files.new)) }
 {
     match task_of(words) {
         Some(Task::Check(names)) => run_check(alloc, files, out, &names),
@@ -85,6 +90,7 @@ fn run_merge<F: Files, O: Sink>(
     ensures leaves { Leaves (merge_promise (merge_to name.now names.now)) (line_at result)
         (world (F.held files.old) (F.faults files.old) (O.written out.old) (O.faults out.old))
         (world (F.held files.new) (F.faults files.new) (O.written out.new) (O.faults out.new)) (status_at result) }
+    ensures sparing { IfSome (F.held files.old) (TaskSpares (Some (merging (merge_to name.now names.now))) (status_at result) (F.rest files.new)) }
     ensures words { status_at result ≡ Status.BadWords → ⊥ }
 {
     match names.collect(alloc) {

@@ -1,5 +1,6 @@
 use Rattle.std.proofs.Common.{ℕ, ◌+◌, List, [], drop, get_or, Bor, ◌∙◌}
 use Rattle.command_ending.proofs.NamesLemmas.{seen, seen_from, seen_within}
+use Rattle.command_cover.proofs.SparingLemmas.{spares_one}
 use Rattle.command_cover.proofs.StepLemmas.{added_first, refused_first}
 use Rattle.command_cover.proofs.reading.add_files.Goals as goal
 
@@ -27,3 +28,10 @@ names-preserved g c =
       held = c.in-Ok.ensures.held ∙ c.names.invariant.held;
       faults = c.in-Ok.ensures.ok_quiet ∙ c.names.invariant.faults;
     }
+
+pub returns-in-Err-clause-sparing : goal.returns-in-Err-clause-sparing
+returns-in-Err-clause-sparing g c =
+    let other : Bor (List ℕ) = record { ref_ptr = (0, 0); now = [] } in
+    let few = rw c.names.invariant.held at c.in-Err.ensures.sparing in
+    λ bad. spares_one (g.F.Files.held c.args.files.now) (seen c.args.names.now) (get_or c.args.names.now c.names.name-index other).now _ _
+    (seen_within c.args.names.now c.names.name-index other c.names-test.true) (few bad)

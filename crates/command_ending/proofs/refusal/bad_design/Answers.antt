@@ -1,4 +1,4 @@
-use Rattle.std.proofs.Common.{ℕ, List, refl, ap}
+use Rattle.std.proofs.Common.{refl, ap}
 use Rattle.command_ending.specs.Answer.{refused_with}
 use Rattle.command_ending.specs.Stops.{refused, without_memory}
 use Rattle.command_ending.specs.declared.status.Status.TheVariants.{BadDesign}

@@ -6,5 +6,6 @@ use Rattle.cov_dat.proofs.data_text.data_text.Goals as goal
 
 pub returns-then-ascends : goal.returns-then-ascends
 returns-then-ascends c =
-    let same : entries (count_map c.args.counts.now.entries) ≡ c.args.counts.now.entries = entries-sorted c.args.counts.now.entries (c.ascends.ensures c.if-ascends.true) in
+    let same : entries (count_map c.args.counts.now.entries)
+    ≡ c.args.counts.now.entries = entries-sorted c.args.counts.now.entries (c.ascends.ensures c.if-ascends.true) in
     rw same c.written_in_order.ensures

@@ -1,4 +1,4 @@
-use Rattle.std.proofs.Common.{drop, arith}
+use Rattle.std.proofs.Common.{drop}
 use Rattle.std.proofs.lemmas.List.{take_rest}
 use Rattle.cov_dat.proofs.FieldTextLemmas.{field_from, texts_cut}
 use Rattle.cov_dat.proofs.key_fields.cut_field.Goals as goal

@@ -1,4 +1,3 @@
-use Rattle.std.proofs.Common.{arith}
 use Rattle.std.proofs.lemmas.List.{take_rest}
 use Rattle.cov_dat.proofs.FieldTextLemmas.{field_from, texts_from_start}
 use Rattle.cov_dat.proofs.key_fields.from_field.Goals as goal

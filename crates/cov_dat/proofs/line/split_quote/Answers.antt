@@ -9,7 +9,8 @@ returns-in_err-at-clause-parts c = let none = c.in_err-at.ensures in
 
 pub returns-clause-parts : goal.returns-clause-parts
 returns-clause-parts c = let found = c.in_ok-at.ensures in
-    rw (take_rest c.args.text.now (c.in_ok-at.at + 1), add-one) (sym (at_last_quote-some c.args.text.now c.in_ok-at.at found.0.high found.1 (λ k from below. found.0.after k (omega arith) below)))
+    rw (take_rest c.args.text.now (c.in_ok-at.at + 1), add-one)
+    (sym (at_last_quote-some c.args.text.now c.in_ok-at.at found.0.high found.1 (λ k from below. found.0.after k (omega arith) below)))
 
 pub returns-clause-front : goal.returns-clause-front
 returns-clause-front c =

@@ -1,4 +1,4 @@
-use Rattle.std.proofs.Common.{◌≡◌, ◌≤◌, ◌<◌, ◌||◌, arith, rules, eqb, true, false, length, get_or, sym, ◌∙◌}
+use Rattle.std.proofs.Common.{◌≡◌, ◌<◌, ◌||◌, arith, rules, eqb, true, false, length, get_or, sym, ◌∙◌}
 use Rattle.cov_dat.proofs.PatternLemmas.{fits_step}
 use Rattle.cov_dat.proofs.pattern.match_front.Goals as goal
 

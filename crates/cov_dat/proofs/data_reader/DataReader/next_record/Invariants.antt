@@ -7,6 +7,7 @@ abbrev pub invariant-lines : goal.invariant-lines
 invariant-lines g l = record {
   left : KeepsReading (reading_here l.initial.self (g.F.Files.rest l.initial.files)) (reading_here l.self (g.F.Files.rest l.files));
   stands : (text : List ℕ) → StandsIn text l.initial.self (g.F.Files.rest l.initial.files) → StandsIn text l.self (g.F.Files.rest l.files);
+  grown : l.initial.self.bytes ≤ l.self.bytes;
   no_fault : l.self.fault ≡ None;
   held : g.F.Files.held l.files ≡ g.F.Files.held l.initial.files;
   same : g.F.Files.faults l.files ≡ g.F.Files.faults l.initial.files;
