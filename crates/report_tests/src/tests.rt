@@ -1,1 +1,3 @@
 mod rankings;
+mod reports;
+mod texts;
