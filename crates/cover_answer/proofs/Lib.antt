@@ -1,0 +1,3 @@
+pub mod GatherLemmas
+pub mod AnswerLemmas
+pub mod Worked

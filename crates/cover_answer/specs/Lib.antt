@@ -1,0 +1,5 @@
+pub mod Gathering
+pub mod Reports
+pub mod CoverAnswer
+pub mod CoverPromise
+pub mod Laws
