@@ -1,0 +1,3 @@
+pub mod InDesign
+pub mod Layout
+pub mod Positions

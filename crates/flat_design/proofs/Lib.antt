@@ -1,0 +1,10 @@
+pub mod Items
+pub mod TargetsIn
+pub mod Rooms
+pub mod StepsIn
+pub mod Within
+pub mod NeedLaws
+pub mod NeedsIn
+pub mod RoomLaws
+pub mod UpdateLaws
+pub mod WordLaws

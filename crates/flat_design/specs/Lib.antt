@@ -1,0 +1,4 @@
+pub mod Effects
+pub mod InDesign
+pub mod Laws
+pub mod Needed

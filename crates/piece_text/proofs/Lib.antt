@@ -1,0 +1,4 @@
+pub mod DigitLaws
+pub mod TextLaws
+pub mod PiecesIn
+pub mod ShowFits

@@ -1,0 +1,3 @@
+pub mod SeenLaws
+pub mod FineLaws
+pub mod PlainLaws
