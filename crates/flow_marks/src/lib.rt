@@ -1,0 +1,12 @@
+//! Sets of bits of numbered variables, which are filled and asked by ranges of words and places.
+#![tactic(auto)]
+
+mod marks;
+mod slot;
+mod span;
+mod trail;
+
+pub use marks::Marks;
+pub use slot::Slot;
+pub use span::Span;
+pub use trail::{Spot, take, take_common, take_span, undo};

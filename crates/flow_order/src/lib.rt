@@ -1,0 +1,10 @@
+//! What each process of a design reads, as words with masks, and whether a bit of it differs between two states.
+#![tactic(auto)]
+
+mod change;
+mod mask;
+mod order;
+
+pub use change::active;
+pub use mask::WordMask;
+pub use order::Order;

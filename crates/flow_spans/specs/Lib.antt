@@ -1,0 +1,4 @@
+pub mod Reads
+pub mod Clips
+pub mod Asked
+pub mod Aims

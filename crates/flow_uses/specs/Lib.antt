@@ -1,0 +1,3 @@
+pub mod Walks
+pub mod Uses
+pub mod Gathers
