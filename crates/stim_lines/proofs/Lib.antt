@@ -1,0 +1,6 @@
+pub mod FieldLemmas
+pub mod LayoutLemmas
+pub mod NameLemmas
+pub mod RowLemmas
+pub mod WidthLemmas
+pub mod Worked

@@ -1,0 +1,6 @@
+pub mod Fields
+pub mod Header
+pub mod RowLines
+pub mod Stimulus
+pub mod Layouts
+pub mod Reading

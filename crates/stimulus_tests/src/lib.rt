@@ -1,0 +1,5 @@
+//! Worked stimuli, as tables. It has tests alone.
+#![tactic(auto)]
+
+#[cfg(test)]
+mod tests;
