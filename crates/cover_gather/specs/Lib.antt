@@ -1,0 +1,3 @@
+pub mod Points
+pub mod Steps
+pub mod Gather
