@@ -1,5 +1,5 @@
 -- Reports whose counts are sound, and those whose counts aren't.
-use Rattle.std.proofs.Common.{◌≡◌, ℕ, Bool, true, false, cond, List, [], ◌∷◌, codes, refl, sym, ◌∙◌, ap, subst, Option, None, Some}
+use Rattle.std.proofs.Common.{◌≡◌, ℕ, Bool, true, false, cond, List, [], ◌∷◌, codes, refl, ◌∙◌, ap, subst, Option, None, Some}
 use Rattle.std.specs.Prelude.{nat_lt, option_map}
 use Rattle.cov_types.specs.Limits.{most}
 use Rattle.cov_types.specs.declared.limit.LimitName.TheVariants.{LineEntries}

@@ -1,5 +1,5 @@
 -- Private: the sources of annotated files, step by step.
-use Rattle.std.specs.Prelude.{◌≡◌, ℕ, ◌-◌, nat_lt, false, is_none, List, [], ◌∷◌, ◌++◌, length, codes, Contains, Option, None, Some, option_map, if◌then◌else◌}
+use Rattle.std.specs.Prelude.{◌≡◌, ℕ, ◌-◌, nat_lt, false, is_none, List, [], ◌∷◌, ◌++◌, length, map, codes, Contains, Option, None, Some, option_map, if◌then◌else◌}
 use Rattle.std.specs.Option.{option_map_or}
 use Rattle.cov_types.specs.declared.limit.LimitName.TheVariants.{SourceBytes}
 use Rattle.cov_port.specs.Files.{Names}
@@ -94,6 +94,10 @@ refused_from held counts left (file ∷ files) =
 -- the annotated file of a source, to be stored in a folder
 abbrev pub store_of : Names → Options → Counts → List ℕ → List ℕ → List ℕ × List ℕ
 store_of held options counts folder file = (stored_name folder file, annotated_text options counts file (source_of held file))
+
+-- the names of files that are to be stored
+abbrev pub names_in : List (List ℕ × List ℕ) → List (List ℕ)
+names_in stores = map (λ store. store.0) stores
 
 -- A source was annotated, and its annotated file stands behind the stores.
 pub record IsStored (held : Names) (options : Options) (counts : Counts) (folder file : List ℕ) (left : ℕ) (old new : List (List ℕ × List ℕ)) (rest : ℕ)

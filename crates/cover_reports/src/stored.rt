@@ -8,7 +8,7 @@ ghost use Rattle.report_text.specs.FileNames.{bad_file_name};
 ghost use Rattle.cov_report.specs.Reports.{files_annotated, ordered, text_options};
 ghost use Rattle.command_ending.specs.Stops.{Stops};
 ghost use Rattle.cover_answer.specs.Reports.{stored_name as name_of};
-ghost use Rattle.cover_reports.specs.Sources.{annotating_promise, refused_from, sources_promise, store_of, IsStored};
+ghost use Rattle.cover_reports.specs.Sources.{annotating_promise, names_in, refused_from, sources_promise, store_of, IsStored};
 
 use crate::annotated::annotated_source;
 use crate::base::stored_name;
@@ -53,6 +53,7 @@ fn add_store<F: Files>(
     ensures ok { IfOk result (λ rest. IfSome (F.held files.old) (λ held.
         IsStored held (text_options report.now) (ordered report.now) folder.now (get_or (files_annotated report.now) file [])
         left stores.old.items stores.new.items rest)) }
+    ensures names { OnOk result (names_in stores.new.items ≡ names_in stores.old.items ++ name_of folder.now (get_or (files_annotated report.now) file []) ∷ []) }
     ensures within { IfOk result (λ rest. rest ≤ left) }
     ensures ok_quiet { OnOk result (F.faults files.new ≡ F.faults files.old) }
     ensures err { IfErr result (Stops (annotating_promise (ordered report.now) left (get_or (files_annotated report.now) file []))
@@ -95,6 +96,7 @@ pub fn add_annotated<F: Files>(
     requires { bad_file_name (files_annotated report.now) ≡ None }
     ensures ok { OnOk result (IfSome (F.held files.old) (λ held.
         stores.new.items ≡ stores.old.items ++ map (store_of held (text_options report.now) (ordered report.now) folder.now) (files_annotated report.now))) }
+    ensures names { OnOk result (names_in stores.new.items ≡ names_in stores.old.items ++ map (name_of folder.now) (files_annotated report.now)) }
     ensures sound { OnOk result (IfSome (F.held files.old) (λ held.
         refused_from held (ordered report.now) (most SourceBytes) (files_annotated report.now) ≡ None)) }
     ensures ok_quiet { OnOk result (F.faults files.new ≡ F.faults files.old) }
