@@ -1,6 +1,6 @@
 -- Words have one answer at most, and are done where nothing is wrong.
-use Rattle.std.proofs.Common.{◌≡◌, ◌⊎◌, ℕ, List, refl, sym, ◌∙◌, ap, subst, Option, None, Some}
-use Rattle.std.specs.Prelude.{IsSomeAnd}
+use Rattle.std.proofs.Common.{◌≡◌, ◌⊎◌, ℕ, List, sym, ◌∙◌, ap, subst, Option, None, Some}
+use Rattle.std.specs.Prelude.{◌↔◌, IsPermutation, IsSomeAnd}
 use Rattle.cov_port.specs.Files.{Names}
 use Rattle.command_ending.specs.Answer.{Answer}
 use Rattle.command_ending.specs.Leaves.{Leaves}
@@ -10,32 +10,62 @@ use Rattle.command_ending.specs.declared.status.Status.TheVariants.{Done, NoMemo
 use Rattle.command_ending.proofs.DoneLemmas.{AreDone, done_unless_wanting}
 use Rattle.command_check.specs.Agree.{Agree, same}
 use Rattle.command_check.specs.Laws.{OneCheck, IsDoneUnlessWrong as CheckIsDone}
-use Rattle.command_cover.specs.Laws.{OneMerge, IsDoneUnlessWrong as MergeIsDone}
+use Rattle.command_cover.specs.Merge.{IsMergeAnswer, merge_to}
+use Rattle.cover_answer.specs.Laws.{OneCover, IsDoneUnlessWrong as CoverIsDone, WritesInAnyOrder, WritingMerges as CoverMerges, writing}
 use Rattle.cov_program.specs.Laws.{IsRight}
 use Rattle.cov_program.specs.Promises.{promise_of, task_promise}
-use Rattle.cov_program.specs.Words.{Task, checking, merging, task_of}
+use Rattle.cov_program.specs.Words.{Task, checking, covering, task_of}
 
 agree : (a b : Answer) → a ≡ b → Agree a b
 agree a b is = subst (λ (x : Answer). Agree a x) is same
 
 -- a task has one answer
-pub tasks_agree : OneCheck → OneMerge → (task : Option Task) (held : Names) (a b : Answer) → (task_promise task).Answers held a → (task_promise task).Answers held b → Agree a b
-tasks_agree check merge None held a b one two = agree a b (one ∙ sym two)
-tasks_agree check merge (Some (checking names)) held a b one two = check held names a b one two
-tasks_agree check merge (Some (merging m)) held a b one two = agree a b (merge held m a b one two)
+pub tasks_agree : OneCheck → OneCover → (task : Option Task) (held : Names) (a b : Answer) → (task_promise task).Answers held a
+    → (task_promise task).Answers held b → Agree a b
+tasks_agree check cover None held a b one two = agree a b (one ∙ sym two)
+tasks_agree check cover (Some (checking names)) held a b one two = check held names a b one two
+tasks_agree check cover (Some (covering asked)) held a b one two = agree a b (cover held asked a b one two)
 
-right_done : CheckIsDone → MergeIsDone → (task : Option Task) (held : Names) → IsRight task held → (answer : Answer) → (task_promise task).Answers held answer → answer.status ≡ Done
-right_done check merge None held right answer is = absurd right
-right_done check merge (Some (checking names)) held right answer is =
+right_done : CheckIsDone → CoverIsDone → (task : Option Task) (held : Names) → IsRight task held → (answer : Answer)
+    → (task_promise task).Answers held answer → answer.status ≡ Done
+right_done check cover None held right answer is = absurd right
+right_done check cover (Some (checking names)) held right answer is =
     ap (λ (a : Answer). a.status) (check held names right.1.0 right.1.1 answer right.0 right.1.2 right.1.3 is)
-right_done check merge (Some (merging m)) held right answer is = ap (λ (a : Answer). a.status) (merge held m answer right.0 right.1 is)
+right_done check cover (Some (covering asked)) held right answer is =
+    let made = cover held asked answer right.0 right.1.0 right.1.1 is in ap (λ (a : Answer). a.status) made.1
 
-each_done : CheckIsDone → MergeIsDone → (task : Option Task) (told : Option Names) → IsSomeAnd told (IsRight task) → AreDone (task_promise task) told
-each_done check merge task None right = right
-each_done check merge task (Some held) right = right_done check merge task held right
+each_done : CheckIsDone → CoverIsDone → (task : Option Task) (told : Option Names) → IsSomeAnd told (IsRight task) → AreDone (task_promise task) told
+each_done check cover task None right = right
+each_done check cover task (Some held) right = right_done check cover task held right
 
 -- words with which nothing is wrong
-pub words_done : CheckIsDone → MergeIsDone → (words : List (List ℕ)) (said : List ℕ) (old new : World) (ended : Status) → Leaves (promise_of words) said old new ended
+pub words_done : CheckIsDone → CoverIsDone → (words : List (List ℕ)) (said : List ℕ) (old new : World) (ended : Status)
+    → Leaves (promise_of words) said old new ended
     → IsCalm old new → IsSomeAnd old.held (IsRight (task_of words)) → (ended ≡ Done) ⊎ (ended ≡ NoMemory)
-words_done check merge words said old new ended leaves calm right =
-    done_unless_wanting (promise_of words) said old new ended leaves calm (each_done check merge (task_of words) old.held right)
+words_done check cover words said old new ended leaves calm right =
+    done_unless_wanting (promise_of words) said old new ended leaves calm (each_done check cover (task_of words) old.held right)
+
+-- what answers a task answers words that ask for it
+asked_for : (words : List (List ℕ)) (task : Task) (held : Names) (a : Answer) → task_of words ≡ Some task
+    → (promise_of words).Answers held a ↔ (task_promise (Some task)).Answers held a
+asked_for words task held a asks = (
+  λ is. subst (λ (t : Option Task). (task_promise t).Answers held a) asks is,
+  λ is. subst (λ (t : Option Task). (task_promise t).Answers held a) (sym asks) is,
+)
+
+-- words that ask for the merged file alone
+pub words_merge : CoverMerges → (words : List (List ℕ)) (held : Names) (out : List ℕ) (files : List (List ℕ)) (a : Answer)
+    → task_of words ≡ Some (covering (writing out files)) → (promise_of words).Answers held a ↔ IsMergeAnswer held (merge_to out files) a
+words_merge law words held out files a asks =
+    let same = asked_for words (covering (writing out files)) held a asks in
+    let merges = law held out files a in
+    (λ is. merges.0 (same.0 is), λ is. same.1 (merges.1 is))
+
+-- and in another order of their files
+pub words_in_any_order : WritesInAnyOrder → (words others : List (List ℕ)) (held : Names) (out : List ℕ) (xs ys : List (List ℕ)) (a : Answer)
+    → task_of words ≡ Some (covering (writing out xs)) → task_of others ≡ Some (covering (writing out ys)) → IsPermutation xs ys
+    → (promise_of words).Answers held a → a.status ≡ Done → (promise_of others).Answers held a
+words_in_any_order law words others held out xs ys a asks asks_too moved is all_done =
+    let one = asked_for words (covering (writing out xs)) held a asks in
+    let two = asked_for others (covering (writing out ys)) held a asks_too in
+    two.1 (law held out xs ys a moved (one.0 is) all_done)

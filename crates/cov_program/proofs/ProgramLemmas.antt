@@ -1,5 +1,5 @@
 -- What words leave, by their task.
-use Rattle.std.proofs.Common.{◌≡◌, ℕ, false, List, refl, sym, ap, subst, ◌∙◌, Option, None, Some, Result, Ok, Err, arith}
+use Rattle.std.proofs.Common.{◌≡◌, ℕ, false, List, refl, subst, Option, None, Some, Result, Ok, Err, arith}
 use Rattle.std.specs.Prelude.{IfSome, OnOk, OnErr}
 use Rattle.cov_port.specs.Causes.{Both, HasCause}
 use Rattle.cov_port.specs.Files.{Names, FileFaults}
@@ -11,19 +11,20 @@ use Rattle.command_ending.specs.Leaves.{IsSaid, Leaves}
 use Rattle.command_ending.specs.Promise.{Promise, IsLineOf}
 use Rattle.command_ending.specs.World.{World, world}
 use Rattle.command_ending.specs.declared.status.Status.{Status}
-use Rattle.command_ending.specs.declared.status.Status.TheVariants.{BadData, BadWords, Fault, NoMemory}
+use Rattle.command_ending.specs.declared.status.Status.TheVariants.{BadData, BadWords, NoMemory}
 use Rattle.command_ending.specs.Stops.{wants_memory}
 use Rattle.command_ending.specs.declared.ending.Ending.TheVariants as ending
-use Rattle.command_ending.proofs.PutLemmas.{always_told, if_told, puts_all_part, puts_none, stores_none}
+use Rattle.command_ending.proofs.PutLemmas.{always_told, puts_all_part, puts_none, stores_none}
 use Rattle.command_ending.proofs.StopLemmas.{stops_leave}
 use Rattle.command_check.specs.CheckPromise.{CheckRefuses, too_many, too_long, in_file, DesignRefuses, at_place, past_limit}
-use Rattle.command_cover.specs.Merge.{Merging}
-use Rattle.command_cover.specs.MergePromise.{MergeRefuses, FileRefuses, merge_promise}
+use Rattle.command_cover.specs.MergePromise.{FileRefuses}
 use Rattle.command_cover.specs.MergePromise as merge
-use Rattle.command_cover.specs.Sparing.{IsSparing, TakesFewOf}
-use Rattle.cov_program.specs.Promises.{no_promise, promise_of, task_promise}
+use Rattle.cov_words.specs.Command.{Covering}
+use Rattle.cover_answer.specs.CoverPromise.{CoverRefuses, ReportRefuses}
+use Rattle.cover_answer.specs.CoverPromise as cover
+use Rattle.cov_program.specs.Promises.{promise_of, task_promise}
 use Rattle.cov_program.specs.Sparing.{TaskSpares}
-use Rattle.cov_program.specs.Words.{Task, checking, merging, task_of}
+use Rattle.cov_program.specs.Words.{Task, checking, covering, task_of}
 
 -- what words promise is what their task does
 pub leaves_task : (words : List (List ℕ)) (task : Option Task) (said : List ℕ) (old new : World) (ended : Status) → task ≡ task_of words
@@ -63,41 +64,35 @@ file_words : (name : List ℕ) (status : Status) (line : List ℕ) → FileRefus
 file_words name status line (merge.bad_line n code from is) same = absurd (cc)
 file_words name status line (merge.past_limit limit is) same = absurd (cc)
 
-merge_words : (names : List (List ℕ)) (status : Status) (line : List ℕ) → MergeRefuses names status line → status ≡ BadWords → ⊥
-merge_words names status line (merge.too_many many) same = absurd (cc)
-merge_words names status line (merge.in_file name s l few there is) same = file_words name status line is same
+report_words : (asked : Covering) (status : Status) (line : List ℕ) → ReportRefuses asked status line → status ≡ BadWords → ⊥
+report_words asked status line (cover.bad_key_line file looks) same = absurd (cc)
+report_words asked status line (cover.too_many_lines looks) same = absurd (cc)
+report_words asked status line (cover.bad_file_name file on bad) same = absurd (cc)
+report_words asked status line (cover.same_base_name file may) same = absurd (cc)
+report_words asked status line (cover.too_long on) same = absurd (cc)
+report_words asked status line (cover.short_source file lines may) same = absurd (cc)
+
+cover_words : (asked : Covering) (status : Status) (line : List ℕ) → CoverRefuses asked status line → status ≡ BadWords → ⊥
+cover_words asked status line (cover.too_many many) same = absurd (cc)
+cover_words asked status line (cover.in_file name s l few there is) same = file_words name status line is same
+cover_words asked status line (cover.too_many_pairs few on) same = absurd (cc)
+cover_words asked status line (cover.in_report s l few is) same = report_words asked status line is same
 
 not_words : (R : Status → List ℕ → Type 0) (ended : Status) (line : List ℕ) → ((l : List ℕ) → R BadWords l → ⊥) → IsLineOf R ended line → ended ≡ BadWords → ⊥
 not_words R ended line none is same = none line (subst (λ (s : Status). IsLineOf R s line) same is)
 
--- a check or a merge doesn't end for bad words
+-- a check or a `cover` doesn't end for bad words
 pub check_not_words : (names : List (List ℕ)) (ended : Status) (line : List ℕ) → IsLineOf (CheckRefuses names) ended line → ended ≡ BadWords → ⊥
 check_not_words names ended line is same = not_words (CheckRefuses names) ended line (λ l may. check_words names BadWords l may refl) is same
 
-pub merge_not_words : (names : List (List ℕ)) (ended : Status) (line : List ℕ) → IsLineOf (MergeRefuses names) ended line → ended ≡ BadWords → ⊥
-merge_not_words names ended line is same = not_words (MergeRefuses names) ended line (λ l may. merge_words names BadWords l may refl) is same
+pub cover_not_words : (asked : Covering) (ended : Status) (line : List ℕ) → IsLineOf (CoverRefuses asked) ended line → ended ≡ BadWords → ⊥
+cover_not_words asked ended line is same = not_words (CoverRefuses asked) ended line (λ l may. cover_words asked BadWords l may refl) is same
 
 -- a line that was put, or failed to be
 pub said : {E : Type 0} (line : List ℕ) (before now : ℕ) (old new : Option (List ℕ)) (result : Result Unit E) → OnOk result (Both (PutsAll line) old new)
     → OnErr result (Both (PutsPart line) old new) → HasCause before now result → IsSaid line before now old new
 said line before now old new (Ok v) put part cause = record { whole = λ calm. put; part = puts_all_part line old new put }
 said line before now old new (Err e) put part cause = let rose = cause.failed in record { whole = λ calm. absurd (omega arith); part = part }
-
--- what a merge leaves is an answer, of whose line no more was taken
-pub merge_spares : (merge : Merging) (said : List ℕ) (old new : World) (ended : Status) (rest : Option (List ℕ)) → Leaves (merge_promise merge) said old new ended
-    → IsSparing merge.files ended said rest old.held → IfSome old.held (TaskSpares (Some (merging merge)) ended rest)
-merge_spares merge said old new ended rest leaves few = each old.held leaves few where
-  each : (told : Option Names) → Leaves (merge_promise merge) said (world told old.faults old.written old.put_faults) new ended → IsSparing merge.files ended said rest told
-      → IfSome told (TaskSpares (Some (merging merge)) ended rest)
-  each None is spares = tt
-  each (Some held) is spares = λ bad.
-      let left = is.answer (λ so. other_fault (sym bad ∙ so)) (λ so. other_want (sym bad ∙ so)) in
-      (left.0, left.1, subst (λ (line : List ℕ). TakesFewOf merge.files line rest held) left.2.line (spares bad)) where
-        other_fault : BadData ≡ Fault → ⊥
-        other_fault is = absurd (cc)
-
-        other_want : BadData ≡ NoMemory → ⊥
-        other_want is = absurd (cc)
 
 -- want of memory and bad words refuse no line
 pub want_is_no_line : NoMemory ≡ BadData → ⊥
@@ -107,14 +102,16 @@ pub words_are_no_line : BadWords ≡ BadData → ⊥
 words_are_no_line is = absurd (cc)
 
 -- a status other than `BadData` spares nothing
-pub spares_nothing : (task : Option Task) (ended : Status) (rest : Option (List ℕ)) (told : Option Names) → (ended ≡ BadData → ⊥) → IfSome told (TaskSpares task ended rest)
+pub spares_nothing : (task : Option Task) (ended : Status) (rest : Option (List ℕ)) (told : Option Names)
+    → (ended ≡ BadData → ⊥) → IfSome told (TaskSpares task ended rest)
 spares_nothing task ended rest None other = tt
 spares_nothing None ended rest (Some held) other = tt
 spares_nothing (Some (checking names)) ended rest (Some held) other = tt
-spares_nothing (Some (merging merge)) ended rest (Some held) other = λ bad. absurd (other bad)
+spares_nothing (Some (covering asked)) ended rest (Some held) other = λ bad. absurd (other bad)
 
 -- a check refuses no line of a data file
-pub check_spares : (names : List (List ℕ)) (ended : Status) (rest : Option (List ℕ)) (told : Option Names) → IfSome told (TaskSpares (Some (checking names)) ended rest)
+pub check_spares : (names : List (List ℕ)) (ended : Status) (rest : Option (List ℕ)) (told : Option Names)
+    → IfSome told (TaskSpares (Some (checking names)) ended rest)
 check_spares names ended rest None = tt
 check_spares names ended rest (Some held) = tt
 

@@ -5,8 +5,8 @@ use Rattle.command_ending.specs.ErrorLines.{words_line}
 use Rattle.command_ending.specs.Promise.{Promise}
 use Rattle.command_ending.specs.declared.status.Status.TheVariants.{BadWords}
 use Rattle.command_check.specs.CheckPromise.{check_promise}
-use Rattle.command_cover.specs.MergePromise.{merge_promise}
-use Rattle.cov_program.specs.Words.{Task, checking, merging, task_of}
+use Rattle.cover_answer.specs.CoverPromise.{cover_promise}
+use Rattle.cov_program.specs.Words.{Task, checking, covering, task_of}
 
 -- words that ask for nothing are refused, and nothing is read or stored
 abbrev pub no_promise : Promise
@@ -22,7 +22,7 @@ no_promise = record {
 abbrev pub task_promise : Option Task → Promise
 task_promise None = no_promise
 task_promise (Some (checking names)) = check_promise names
-task_promise (Some (merging merge)) = merge_promise merge
+task_promise (Some (covering asked)) = cover_promise asked
 
 -- what the words promise: the answers to them, the refusals that they may have, and the names that they read and store
 abbrev pub promise_of : List (List ℕ) → Promise

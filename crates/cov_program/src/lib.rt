@@ -8,5 +8,5 @@ mod task;
 
 pub use command_ending::Status;
 pub use launch::run_program;
-pub use law::{answers_agree, done_unless_wrong};
+pub use law::{answers_agree, done_unless_wrong, merges_in_any_order, writing_merges};
 pub use program::vcov;

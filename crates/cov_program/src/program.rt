@@ -1,20 +1,20 @@
 ghost use Rattle.std.specs.Prelude.{◌≡◌, ◌↔◌, ℕ, List, None, Some, IfSome, map, string_bytes};
 ghost use Rattle.command_check.specs.CheckPromise.{check_promise};
-ghost use Rattle.command_cover.specs.Merge.{merge_to};
-ghost use Rattle.command_cover.specs.MergePromise.{merge_promise};
+ghost use Rattle.cover_answer.specs.CoverPromise.{cover_promise};
+ghost use Rattle.cov_words.specs.SeenCommand.{seen_cover};
 ghost use Rattle.command_ending.specs.Ending.{line_at, status_at};
 ghost use Rattle.command_ending.specs.Leaves.{IsSaid, Leaves};
 ghost use Rattle.command_ending.specs.World.{world};
 ghost use Rattle.cov_program.specs.Promises.{promise_of};
 ghost use Rattle.cov_program.specs.Sparing.{TaskSpares};
-ghost use Rattle.cov_program.specs.Words.{merging, task_of};
+ghost use Rattle.cov_program.specs.Words.{covering, task_of};
 
 use crate::task::{Task, task_of};
 use command_check::check_files;
-use command_cover::merge_files;
 use command_ending::{Ending, Status};
 use cov_port::{Files, Sink, put_all};
-use cov_words::Names;
+use cov_words::{Cover, Names};
+use cover_files::cover_files;
 use std::alloc::Global;
 use std::thread::Threads;
 
@@ -39,7 +39,7 @@ pub fn vcov<R: Threads + Sync, F: Files, O: Sink, E: Sink>(
         (world (F.held files.new) (F.faults files.new) (O.written out.new) (O.faults out.new)) result
         × IsSaid line (E.faults err.old) (E.faults err.new) (E.written err.old) (E.written err.new) }
 
-    // Of a data file that a merge refuses at a line no more is taken than the lines before it and one buffer.
+    // Of a data file that a `cover` refuses at a line no more is taken than the lines before it and one buffer.
     ensures sparing { IfSome (F.held files.old) (TaskSpares (task_of (map string_bytes words.now.items)) result (F.rest files.new)) }
 {
     let _rt = rt;
@@ -58,7 +58,7 @@ fn run<F: Files, O: Sink>(alloc: Global, words: &[String], files: &mut F, out: &
 {
     match task_of(words) {
         Some(Task::Check(names)) => run_check(alloc, files, out, &names),
-        Some(Task::Merge(name, names)) => run_merge(alloc, files, out, name, &names),
+        Some(Task::Cover(asked)) => run_cover(alloc, files, out, &asked),
         None => Ending::BadWords,
     }
 }
@@ -80,21 +80,20 @@ fn run_check<F: Files, O: Sink>(
     }
 }
 
-fn run_merge<F: Files, O: Sink>(
+fn run_cover<F: Files, O: Sink>(
     alloc: Global,
     files: &mut F,
     out: &mut O,
-    name: &str,
-    names: &Names<'_>,
+    asked: &Cover<'_>,
 ) -> Ending
-    ensures leaves { Leaves (merge_promise (merge_to name.now names.now)) (line_at result)
+    ensures leaves { Leaves (cover_promise (seen_cover asked.now)) (line_at result)
         (world (F.held files.old) (F.faults files.old) (O.written out.old) (O.faults out.old))
         (world (F.held files.new) (F.faults files.new) (O.written out.new) (O.faults out.new)) (status_at result) }
-    ensures sparing { IfSome (F.held files.old) (TaskSpares (Some (merging (merge_to name.now names.now))) (status_at result) (F.rest files.new)) }
+    ensures sparing { IfSome (F.held files.old) (TaskSpares (Some (covering (seen_cover asked.now))) (status_at result) (F.rest files.new)) }
     ensures words { status_at result ≡ Status.BadWords → ⊥ }
 {
-    match names.collect(alloc) {
-        Ok(names) => merge_files(alloc, files, out, name, names.as_slice()),
+    match asked.files.collect(alloc) {
+        Ok(names) => cover_files(alloc, files, out, asked, names.as_slice()),
         Err(_) => Ending::NoMemory,
     }
 }

@@ -1,7 +1,7 @@
 //! What words ask for.
 
 ghost use Rattle.std.specs.Prelude.{◌≡◌, map, string_bytes};
-ghost use Rattle.cov_words.specs.SeenCommand.{seen, seen_cover};
+ghost use Rattle.cov_words.specs.SeenCommand.{seen};
 ghost use Rattle.cov_program.specs.Tasks.{seen_task};
 ghost use Rattle.cov_program.specs.Words as spec;
 
@@ -12,8 +12,8 @@ use cov_words::{Command, Cover, Names, read_words};
 pub(crate) enum Task<'a> {
     /// A check of these design files.
     Check(Names<'a>),
-    /// A merge of these data files, which is stored at the name.
-    Merge(&'a str, Names<'a>),
+    /// A `cover` with these options.
+    Cover(Cover<'a>),
 }
 
 /// What the words ask for, if they ask for anything that is built.
@@ -31,29 +31,7 @@ fn task_for(command: Command<'_>) -> Option<Task<'_>>
 {
     match command {
         Command::Check(names) => Some(Task::Check(names)),
-        Command::Cover(asked) => merge_for(asked),
+        Command::Cover(asked) => Some(Task::Cover(asked)),
         Command::Build(_) | Command::Sim(_) | Command::SelfTest(_) => None,
     }
-}
-
-fn merge_for(asked: Cover<'_>) -> Option<Task<'_>>
-    ensures { seen_task result ≡ spec.merge_for (seen_cover asked.entry) }
-{
-    if !only_writes(&asked) {
-        return None;
-    }
-    match asked.write {
-        Some(out) => Some(Task::Merge(out, asked.files)),
-        None => None,
-    }
-}
-
-fn only_writes(asked: &Cover<'_>) -> bool
-    ensures { result ≡ spec.only_writes (seen_cover asked.now) }
-{
-    asked.write_info.is_none()
-        && !asked.rank
-        && asked.annotate.is_none()
-        && asked.annotate_min.is_none()
-        && asked.filter_type.is_none()
 }

@@ -3,4 +3,4 @@ use Rattle.cov_program.proofs.LawLemmas.{tasks_agree}
 use Rattle.cov_program.proofs.law.answers_agree.Goals as goal
 
 pub returns : goal.returns
-returns c words held a b one two = tasks_agree c.check_has_one_answer.ensures c.merge_has_one_answer.ensures (task_of words) held a b one two
+returns c words held a b one two = tasks_agree c.check_has_one_answer.ensures c.cover_has_one_answer.ensures (task_of words) held a b one two

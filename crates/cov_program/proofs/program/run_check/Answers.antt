@@ -12,4 +12,5 @@ returns-in-Ok-clause-words g c = check_not_words _ _ (line_at c.check_files.resu
 
 pub returns-in-Err-clause-leaves : goal.returns-in-Err-clause-leaves
 returns-in-Err-clause-leaves g c =
-    leaves_wanting (check_promise c.args.names.now) (g.F.Files.held c.args.files.now) (g.F.Files.faults c.args.files.now) (g.O.Sink.written c.args.out.now) (g.O.Sink.faults c.args.out.now) refl
+    leaves_wanting (check_promise c.args.names.now) (g.F.Files.held c.args.files.now) (g.F.Files.faults c.args.files.now)
+    (g.O.Sink.written c.args.out.now) (g.O.Sink.faults c.args.out.now) refl
