@@ -13,6 +13,27 @@ use std::test::Fail;
 use step_count::Steps;
 use test_rank::{RankFault, Ranking, TestCovers, one_ranking, rank, rank_text};
 
+const HEADING: &[u8] = b"Rank RankPts Covered Test\n";
+
+/// The points that each test covers, and the lines behind the heading.
+const TABLES: &[(&[&[u32]], &[u8])] = &[
+    (
+        &[&[1, 2, 3], &[3, 4], &[1, 2]],
+        b"2 3 3 a\n1 1 2 b\n0 0 2 c\n",
+    ),
+    (&[&[7], &[7]], b"1 1 1 a\n0 0 1 b\n"),
+    (&[&[], &[]], b"0 0 0 a\n0 0 0 b\n"),
+    (&[], b""),
+    (
+        &[&[1], &[1, 2, 3, 4], &[4, 5, 6], &[5, 6, 7]],
+        b"2 4 4 b\n1 3 3 d\n0 0 1 a\n0 0 3 c\n",
+    ),
+    (
+        &[&[1, 2], &[3, 4], &[2, 3, 9]],
+        b"3 3 3 c\n2 1 2 a\n1 1 2 b\n",
+    ),
+];
+
 /// The ranking of the three tests takes at most 16 steps.
 fn three_tests<L: Ledger>(alloc: Global, steps: &mut Steps<L>) -> Result<Ranking, RankFault>
     ensures rows { IfOk result (λ rows. rows ≡ three_rows) }
@@ -64,27 +85,9 @@ fn table<L: Ledger>(
 
 #[test]
 fn tables_of_tests(rt: HostRuntime) -> Result<(), Fail> {
-    let rows: [(&[&[u32]], &str); 6] = [
-        (
-            &[&[1, 2, 3], &[3, 4], &[1, 2]],
-            "2 3 3 a\n1 1 2 b\n0 0 2 c\n",
-        ),
-        (&[&[7], &[7]], "1 1 1 a\n0 0 1 b\n"),
-        (&[&[], &[]], "0 0 0 a\n0 0 0 b\n"),
-        (&[], ""),
-        (
-            &[&[1], &[1, 2, 3, 4], &[4, 5, 6], &[5, 6, 7]],
-            "2 4 4 b\n1 3 3 d\n0 0 1 a\n0 0 3 c\n",
-        ),
-        (
-            &[&[1, 2], &[3, 4], &[2, 3, 9]],
-            "3 3 3 c\n2 1 2 a\n1 1 2 b\n",
-        ),
-    ];
-    for (tests, lines) in rows {
+    for (tests, lines) in TABLES {
         let text = table::<Brand>(&rt, Blank::new(1), tests)?;
-        let wanted = format!(in rt.alloc(); "Rank RankPts Covered Test\n{lines}")?;
-        assert!(&rt; text.as_slice() == wanted.as_bytes(), "{wanted}");
+        assert!(&rt; text.as_slice().strip_prefix(HEADING) == Some(*lines));
     }
     Ok(())
 }
