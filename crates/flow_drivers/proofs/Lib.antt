@@ -1,0 +1,4 @@
+pub mod Sharing
+pub mod Flagging
+pub mod Seeing
+pub mod Hiding

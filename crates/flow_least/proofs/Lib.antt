@@ -1,0 +1,4 @@
+pub mod Lessers
+pub mod Meeting
+pub mod Searching
+pub mod OfVars

@@ -1,0 +1,12 @@
+use Rattle.std.proofs.Common.{◌≡◌, ◌||◌, take}
+use Rattle.circuit_run.specs.States.{Bit}
+use Rattle.flow_marks.specs.Slots.{IsIn}
+use Rattle.flow_marks.specs.Sets.{has}
+use Rattle.flow_marks.specs.Takes.{is_listed}
+use Rattle.flow_paths.proofs.branches.add_spots.Given as goal
+
+abbrev pub invariant-loop-spot : goal.invariant-loop-spot
+invariant-loop-spot l = record {
+  slots : l.marks.slots ≡ l.initial.marks.slots;
+  bits : (b : Bit) → IsIn l.initial.marks.slots b → has l.marks b ≡ (is_listed (take l.spot-index l.spots) b || has l.initial.marks b);
+}
