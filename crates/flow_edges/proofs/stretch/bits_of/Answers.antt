@@ -1,0 +1,12 @@
+use Rattle.std.proofs.Common.{arith}
+use Rattle.flow_edges.proofs.Numbers.{bit_room}
+use Rattle.flow_edges.proofs.stretch.bits_of.Goals as goal
+
+pub overflow_add-word : goal.overflow_add-word
+overflow_add-word c = omega (arith, bit_room c.args.slots.now c.args.span 0 c.requires.slots c.requires.span (omega arith))
+
+pub overflow_add-result : goal.overflow_add-result
+overflow_add-result c = omega (arith, bit_room c.args.slots.now c.args.span 0 c.requires.slots c.requires.span (omega arith))
+
+pub overflow_add-result-2 : goal.overflow_add-result-2
+overflow_add-result-2 c = omega (arith, bit_room c.args.slots.now c.args.span 0 c.requires.slots c.requires.span (omega arith))

@@ -1,0 +1,5 @@
+pub mod Adding
+pub mod Stretches
+pub mod Owning
+pub mod Linking
+pub mod Ordering
