@@ -1,4 +1,4 @@
--- Designs of registers and small clocked processes are valid.
+-- Plain designs are valid.
 use Rattle.std.proofs.Common.{◌≡◌, ◌≢◌, sym, ap, subst, refl, ℕ, zero, suc, ◌+◌, ◌*◌, ◌<◌, ◌≤◌, arith, Bool, true, false, List, [], ◌∷◌, ◌++◌, length, map}
 use Rattle.std.specs.Prelude.{All, AllPairs, IsTrue, flat_map}
 use Rattle.std.specs.List.{list_all, AllByRecursion}
@@ -40,23 +40,10 @@ use Rattle.design_meaning.proofs.StepFolds as steps
 use Rattle.design_meaning.proofs.StepInduction.{ArmHas, step_induction}
 use Rattle.design_meaning.proofs.ListLaws.{left_true, right_true}
 use Rattle.plain_design.specs.Fine.{weights, arm_steps}
-use Rattle.plain_design.specs.Plain.{IsRegister, AreRegisters, IsPlainProcess}
-use Rattle.plain_design.proofs.FineLaws.{total_append, map_append, weights_append}
+use Rattle.plain_design.specs.Plain.{IsInner, IsPlainVariable, ArePlainVariables, IsPlainProcess}
+use Rattle.plain_design.proofs.FineLaws.{total_append, map_append, weights_append, all_none, all_cons, all_first, all_rest, all_both, none_tells}
 
 -- ---- lists
-
-pub all_none : {X : Type 0} (P : X → Type 0) → All P []
-all_none P k d lt = absurd (omega (arith, lt))
-
-pub all_cons : {X : Type 0} (P : X → Type 0) (x : X) (xs : List X) → P x → All P xs → All P (x ∷ xs)
-all_cons P x xs h k zero d lt = h
-all_cons P x xs h k (suc i) d lt = k i d (omega (arith, lt))
-
-all_first : {X : Type 0} (P : X → Type 0) (x : X) (xs : List X) → All P (x ∷ xs) → P x
-all_first P x xs h = h 0 x (omega arith)
-
-all_rest : {X : Type 0} (P : X → Type 0) (x : X) (xs : List X) → All P (x ∷ xs) → All P xs
-all_rest P x xs h i d lt = h (suc i) d (omega (arith, lt))
 
 no_pairs : {X : Type 0} (R : X → X → Type 0) → AllPairs R []
 no_pairs R i j d h k = absurd (omega (arith, k))
@@ -69,15 +56,15 @@ tested : {X : Type 0} (f : X → Bool) (P : X → Type 0) → ((x : X) → f x �
 tested f P h [] ok = all_none P
 tested f P h (x ∷ xs) ok = all_cons P x xs (h x (left_true (f x) (list_all f xs) ok)) (tested f P h xs (right_true (f x) (list_all f xs) ok))
 
--- ---- registers
+-- ---- variables
 
-pub no_registers : (left : ℕ) → AreRegisters [] left left
-no_registers left = record { variables = all_none IsVariable; regs = all_none (λ v. v.kind ≡ var_kind.Reg); within = omega arith }
+pub no_variables : (left : ℕ) → ArePlainVariables [] left left
+no_variables left = record { variables = all_none IsVariable; inner = all_none IsInner; within = omega arith }
 
-pub more_registers : (v : Var) (vs : List Var) (budget mid left : ℕ) → IsRegister v budget mid → AreRegisters vs mid left → AreRegisters (v ∷ vs) budget left
-more_registers v vs budget mid left h k = record {
+pub more_variables : (v : Var) (vs : List Var) (budget mid left : ℕ) → IsPlainVariable v budget mid → ArePlainVariables vs mid left → ArePlainVariables (v ∷ vs) budget left
+more_variables v vs budget mid left h k = record {
   variables = all_cons IsVariable v vs h.variable k.variables;
-  regs = all_cons (λ v. v.kind ≡ var_kind.Reg) v vs h.reg k.regs;
+  inner = all_cons IsInner v vs h.inner k.inner;
   within = omega (arith, h.within, k.within);
 }
 
@@ -176,10 +163,6 @@ depths_within : (d : Design) (most : ℕ) (ms : List Mention) → weights d ms �
 depths_within d most [] h = all_none (λ m. mention_depth m ≤ most)
 depths_within d most (m ∷ ms) h = all_cons (λ m. mention_depth m ≤ most) m ms (omega (arith, h, mention_shallow m)) (depths_within d most ms (omega (arith, h)))
 
-all_append : {X : Type 0} (P : X → Type 0) (xs ys : List X) → All P xs → All P ys → All P (xs ++ ys)
-all_append P [] ys h k = k
-all_append P (x ∷ xs) ys h k = all_cons P x (xs ++ ys) (all_first P x xs h) (all_append P xs ys (all_rest P x xs h) k)
-
 module _ (d : Design) (k : ℕ) where
   all_weights : (ps : List Process) → All (IsPlainProcess d k) ps → weights d (flat_map mentions_of ps) ≤ 600 * length ps
   all_weights [] h = omega arith
@@ -203,7 +186,7 @@ module _ (d : Design) (k : ℕ) where
   all_depths [] h = all_none (λ m. mention_depth m ≤ 2000)
   all_depths (p ∷ ps) h =
       let x : IsPlainProcess d k p = all_first (IsPlainProcess d k) p ps h in
-      all_append (λ m. mention_depth m ≤ 2000) (mentions_of p) (flat_map mentions_of ps) (depths_within d 2000 (mentions_of p) (omega (arith, x.fine.within)))
+      all_both (λ m. mention_depth m ≤ 2000) (mentions_of p) (flat_map mentions_of ps) (depths_within d 2000 (mentions_of p) (omega (arith, x.fine.within)))
       (all_depths ps (all_rest (IsPlainProcess d k) p ps h))
 
   one_block : (p : Process) → IsPlainProcess d k p → block_depth p.body ≤ 700
@@ -214,60 +197,33 @@ module _ (d : Design) (k : ℕ) where
 
   -- ---- one process
 
-  regs_here : All (λ v. v.kind ≡ var_kind.Reg) d.vars → (v : ℕ) → is_var d v ≡ true → (var_of d v).kind ≡ var_kind.Reg
-  regs_here regs v ok =
-      let lt : v < length d.vars = grind (arith, common_steps) in
-      regs v no_var lt
-
-  not_assign : (kd : ProcessKind) → kd ≡ kind.Clocked → IsTrue (is_assign kd) → ⊥
-  not_assign kd e h = absurd (no (subst (λ x. is_assign x ≡ true) e h))
-    where
-      no : is_assign kind.Clocked ≡ true → ⊥
-      no h = cc
-
-  not_cover : (kd : ProcessKind) → kd ≡ kind.Clocked → IsTrue (is_cover kd) → ⊥
-  not_cover kd e h = absurd (no (subst (λ x. is_cover x ≡ true) e h))
-    where
-      no : is_cover kind.Clocked ≡ true → ⊥
-      no h = cc
-
-  tells_all : (kd : ProcessKind) → kd ≡ kind.Clocked → may_tell kd ≡ false → ⊥
-  tells_all kd e h = no (subst (λ x. may_tell x ≡ false) e h)
-    where
-      no : may_tell kind.Clocked ≡ false → ⊥
-      no h = cc
-
-  one_process : All (λ v. v.kind ≡ var_kind.Reg) d.vars → (p : Process) → IsPlainProcess d k p → IsProcess d k p
-  one_process regs p h = record {
+  one_process : (p : Process) → IsPlainProcess d k p → IsProcess d k p
+  one_process p h = record {
     formed = tested (is_step d k) (λ one. IsTrue (is_step d k one)) (λ x ok. ok) p.body h.fine.formed;
-    assigns = λ x. absurd (not_assign p.kind h.clocked x);
-    covers = λ x. absurd (not_cover p.kind h.clocked x);
-    writes = subst (λ kd. All (λ t. (var_of d (var_named t)).kind ≡ kind_written kd) (targets_of p)) (sym h.clocked)
-        (tested (λ t. is_var d (var_named t)) (λ t. (var_of d (var_named t)).kind ≡ var_kind.Reg) (λ t ok. regs_here regs (var_named t) ok) (targets_of p) h.fine.here);
-    tells_only = λ x. absurd (tells_all p.kind h.clocked x);
+    assigns = h.assigns;
+    covers = λ x. absurd (h.no_cover x);
+    writes = h.fine.here;
+    tells_only = λ q. none_tells p.body (h.fine.quiet q);
   }
 
-  each_process : All (λ v. v.kind ≡ var_kind.Reg) d.vars → (ps : List Process) → All (IsPlainProcess d k) ps → All (IsProcess d k) ps
-  each_process regs ps h i e lt = one_process regs _ (h i e lt)
+  each_process : (ps : List Process) → All (IsPlainProcess d k) ps → All (IsProcess d k) ps
+  each_process ps h i e lt = one_process _ (h i e lt)
 
 -- ---- the whole
 
 module _ (x : Instrumented) (no_inputs : x.design.inputs ≡ []) (no_outputs : x.design.outputs ≡ []) (no_toggles : x.toggles ≡ []) (no_points : x.points ≡ []) where
-  inputs_valid : All (λ v. v.kind ≡ var_kind.Reg) x.design.vars → AreInputs x.design
-  inputs_valid regs =
+  inputs_valid : All IsInner x.design.vars → AreInputs x.design
+  inputs_valid inner =
       let none : input_vars x.design ≡ [] = ap (map (λ input. input.var)) no_inputs in
       record {
         ascend = subst (AllPairs (λ m n. m < n)) (sym none) (no_pairs (λ m n. m < n));
         stand = subst (All (λ v. v < length x.design.vars)) (sym none) (all_none (λ v. v < length x.design.vars));
         single = subst (All (λ v. (var_of x.design v).words ≡ 1)) (sym none) (all_none (λ v. (var_of x.design v).words ≡ 1));
         only_inputs = subst (All (λ v. (var_of x.design v).kind ≡ var_kind.Input)) (sym none) (all_none (λ v. (var_of x.design v).kind ≡ var_kind.Input));
-        all_inputs = λ v lt is. absurd (not_both (var_of x.design v).kind (regs v no_var lt) is);
+        all_inputs = λ v lt is. absurd (inner v no_var lt is);
         names = subst (All (λ input. IsTrue (is_name input.name))) (sym no_inputs) (all_none (λ input. IsTrue (is_name input.name)));
         differ = subst (AllPairs (λ a b. a.name ≢ b.name)) (sym no_inputs) (no_pairs (λ a b. a.name ≢ b.name));
       }
-    where
-      not_both : (kd : VarKind) → kd ≡ var_kind.Reg → kd ≡ var_kind.Input → ⊥
-      not_both kd a b = cc
 
   outputs_valid : AreOutputs x.design
   outputs_valid = record {
@@ -292,20 +248,20 @@ module _ (x : Instrumented) (no_inputs : x.design.inputs ≡ []) (no_outputs : x
     minus = subst (All (λ point. All (λ c. c < x.counters) point.minus)) (sym no_points) (all_none (λ point. All (λ c. c < x.counters) point.minus));
   }
 
-  pub plain_valid : (left : ℕ) → AreRegisters x.design.vars 16777216 left → length x.design.processes ≤ 2000 → x.counters ≤ 4194304
+  pub plain_valid : (left : ℕ) → ArePlainVariables x.design.vars 16777216 left → length x.design.processes ≤ 2000 → x.counters ≤ 4194304
       → All (IsPlainProcess x.design x.counters) x.design.processes → IsValid x
-  plain_valid left regs few counters h =
+  plain_valid left plain few counters h =
       let ps : List Process = x.design.processes in
       let all : weights x.design (flat_map mentions_of ps) ≤ 600 * length ps = all_weights x.design x.counters ps h in
       record {
-        variables = regs.variables;
-        inputs = inputs_valid regs.regs;
+        variables = plain.variables;
+        inputs = inputs_valid plain.inner;
         outputs = outputs_valid;
-        processes = each_process x.design x.counters regs.regs ps h;
+        processes = each_process x.design x.counters ps h;
         toggles = toggles_valid;
         points = points_valid;
         limits = record {
-          bits = omega (arith, regs.within);
+          bits = omega (arith, plain.within);
           processes = omega (arith, few);
           steps = omega (arith, few, all_counted x.design x.counters ps h);
           nodes = omega (arith, few, all, nodes_within x.design (flat_map mentions_of ps));

@@ -1,6 +1,7 @@
 -- What is found of steps over the variables of a design: that they are well formed, and that they are within a budget.
-use Rattle.std.specs.Prelude.{◌≡◌, ℕ, ◌+◌, ◌≤◌, true, List, ◌++◌, map, flat_map}
+use Rattle.std.specs.Prelude.{◌≡◌, ℕ, ◌+◌, ◌≤◌, Bool, true, false, List, ◌++◌, map, flat_map, All}
 use Rattle.std.specs.List.{list_all}
+use Rattle.cov_types.specs.declared.kind.ProcessKind.{ProcessKind}
 use Rattle.design_tree.specs.declared.design.Design.{Design}
 use Rattle.design_tree.specs.declared.typed.Typed.{Typed}
 use Rattle.design_tree.specs.declared.step.Target.{Target}
@@ -9,10 +10,12 @@ use Rattle.design_tree.specs.declared.step.StepItem.{StepItem}
 use Rattle.design_tree.specs.declared.step.StepArm.{StepArm, fold-StepArm}
 use Rattle.design_tree.specs.declared.step.Step.{Step}
 use Rattle.circuit_run.specs.Lists.{total}
+use Rattle.design_meaning.specs.States.{var_of}
 use Rattle.design_meaning.specs.Targets.{var_named}
 use Rattle.design_meaning.specs.Widths.{width_of, widths_named}
-use Rattle.design_meaning.specs.WellTyped.{is_typed, is_target, is_piece, is_var}
-use Rattle.design_meaning.specs.WellFormed.{is_step, is_item}
+use Rattle.design_meaning.specs.WellTyped.{is_typed, is_target, is_piece}
+use Rattle.design_meaning.specs.WellFormed.{is_step, is_item, any_of, tells, step_tells, arm_tells}
+use Rattle.design_meaning.specs.ValidProcesses.{kind_written, may_tell}
 use Rattle.design_meaning.specs.Sizes.{nodes, steps_in, step_size, arm_size, target_nodes}
 use Rattle.design_meaning.specs.Mentions.{Mention, shown, mention_nodes, mention_length, mention_targets, piece_mentions, piece_length, item_mentions}
 use Rattle.flat_design.specs.InDesign.{mentions_in}
@@ -25,13 +28,28 @@ weight d m = mention_nodes m + mention_length d m
 abbrev pub weights : Design → List Mention → ℕ
 weights d ms = total (map (weight d) ms)
 
--- the targets among what is mentioned are of variables of the design
-abbrev pub targets_here : Design → List Mention → Type 0
-targets_here d ms = list_all (λ t. is_var d (var_named t)) (flat_map mention_targets ms) ≡ true
+-- the variable of a target is one that a process of this kind writes
+abbrev pub Written : Design → ProcessKind → Target → Type 0
+Written d kd t = (var_of d (var_named t)).kind ≡ kind_written kd
+
+-- the targets among what is mentioned are such
+abbrev pub targets_here : Design → ProcessKind → List Mention → Type 0
+targets_here d kd ms = All (Written d kd) (flat_map mention_targets ms)
+
+-- whether steps, and arms, print or end the run, where a process of this kind may not
+abbrev pub Quiet : ProcessKind → List Step → Type 0
+Quiet kd steps = may_tell kd ≡ false → any_of (map tells steps) ≡ false
+
+abbrev pub arm_told : StepArm → Bool
+arm_told = fold-StepArm Bool Bool step_tells arm_tells
+
+abbrev pub ArmsQuiet : ProcessKind → List StepArm → Type 0
+ArmsQuiet kd arms = may_tell kd ≡ false → any_of (map arm_told arms) ≡ false
 
 -- targets that name so many bits
-pub record AreTargetsSeen (d : Design) (ts : List Target) (budget w left : ℕ) : Type 0 where
+pub record AreTargetsSeen (d : Design) (kd : ProcessKind) (ts : List Target) (budget w left : ℕ) : Type 0 where
   pub typed : list_all (is_target d) ts ≡ true
+  pub written : All (Written d kd) ts
   pub width : widths_named d ts ≡ w
   pub within : total (map target_nodes ts) + left ≤ budget
 
@@ -56,20 +74,23 @@ pub record AreItemsSeen (d : Design) (w : ℕ) (items : List StepItem) (budget l
 abbrev pub arm_steps : StepArm → ℕ
 arm_steps = fold-StepArm ℕ ℕ step_size arm_size
 
--- steps, and arms of a case of so many bits
-pub record AreFine (d : Design) (k : ℕ) (steps : List Step) (budget left : ℕ) : Type 0 where
+-- steps, and arms of a case of so many bits, in a process of this kind
+pub record AreFine (d : Design) (kd : ProcessKind) (k : ℕ) (steps : List Step) (budget left : ℕ) : Type 0 where
   pub formed : list_all (is_step d k) steps ≡ true
   pub within : total (map steps_in steps) + weights d (flat_map mentions_in steps) + left ≤ budget
-  pub here : targets_here d (flat_map mentions_in steps)
+  pub here : targets_here d kd (flat_map mentions_in steps)
+  pub quiet : Quiet kd steps
 
-pub record AreArmsFine (d : Design) (k w : ℕ) (arms : List StepArm) (budget left : ℕ) : Type 0 where
+pub record AreArmsFine (d : Design) (kd : ProcessKind) (k w : ℕ) (arms : List StepArm) (budget left : ℕ) : Type 0 where
   pub formed : list_all (arm_at d k w) arms ≡ true
   pub within : total (map arm_steps arms) + weights d (flat_map arm_mentions_in arms) + left ≤ budget
-  pub here : targets_here d (flat_map arm_mentions_in arms)
+  pub here : targets_here d kd (flat_map arm_mentions_in arms)
+  pub quiet : ArmsQuiet kd arms
 
 -- an assignment whose targets are as wide as its value
-pub record IsAssignment (d : Design) (ts : List Target) (value : Typed) (budget left : ℕ) : Type 0 where
+pub record IsAssignment (d : Design) (kd : ProcessKind) (ts : List Target) (value : Typed) (budget left : ℕ) : Type 0 where
   pub targets : list_all (is_target d) ts ≡ true
+  pub written : All (Written d kd) ts
   pub typed : is_typed d value ≡ true
   pub same : widths_named d ts ≡ width_of d value
   pub within : total (map target_nodes ts) + nodes value + left ≤ budget

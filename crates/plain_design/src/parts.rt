@@ -1,11 +1,12 @@
-ghost use Rattle.std.specs.Prelude.{◌≡◌, All, IfSome};
+ghost use Rattle.std.specs.Prelude.{◌≡◌, true, All, IfSome};
+ghost use Rattle.design_meaning.specs.Targets.{var_named};
 ghost use Rattle.design_meaning.specs.ValidVariables.{IsVariable};
 ghost use Rattle.design_meaning.specs.Widths.{width_named};
-ghost use Rattle.plain_design.specs.Fine.{IsTargetSeen, AreTargetsSeen, IsPieceSeen, ArePiecesSeen, AreItemsSeen};
+ghost use Rattle.plain_design.specs.Fine.{Written, IsTargetSeen, AreTargetsSeen, IsPieceSeen, ArePiecesSeen, AreItemsSeen};
 
 use crate::expression::{Seen, index, typed};
 use crate::width::{is_width, less, number_fits, plain_width, word_width};
-use design_tree::{Design, Piece, StepItem, Target};
+use design_tree::{Design, Piece, ProcessKind, StepItem, Target, VarKind};
 use piece_text::{columns_of, hex_digits};
 
 /// How many bits a well typed target names, and what is left of a budget of nodes.
@@ -58,14 +59,49 @@ fn one_target(target: &Target, design: &Design, budget: u32) -> Option<Seen>
     }
 }
 
-/// How many bits well typed targets name together, and what is left of a budget of nodes.
-pub(crate) fn all_targets(targets: &[Target], design: &Design, budget: u32) -> Option<Seen>
+/// The variable of a target.
+fn named(target: &Target) -> u32
+    ensures { result ≡ var_named target.now }
+{
+    match target {
+        Target::Whole { var } => *var,
+        Target::Part { var, .. } => *var,
+        Target::Word { var, .. } => *var,
+        Target::WordPart { var, .. } => *var,
+    }
+}
+
+/// Whether a process of this kind may write the variable of a target.
+fn may_write(target: &Target, design: &Design, kind: ProcessKind) -> bool
+    ensures { result ≡ true → Written design.now kind target.now }
+{
+    match design.vars.as_slice().get(named(target) as usize) {
+        Some(var) => match (kind, var.kind) {
+            (ProcessKind::Assign, VarKind::Wire) => true,
+            (ProcessKind::Assign, _) => false,
+            (_, VarKind::Reg) => true,
+            _ => false,
+        },
+        None => false,
+    }
+}
+
+/// How many bits well typed targets, which a process of this kind may write, name together, and what is left of a budget of nodes.
+pub(crate) fn all_targets(
+    targets: &[Target],
+    design: &Design,
+    kind: ProcessKind,
+    budget: u32,
+) -> Option<Seen>
     requires { All IsVariable design.now.vars }
-    ensures { IfSome result (λ seen. AreTargetsSeen design.now targets.now budget seen.width seen.left) }
+    ensures { IfSome result (λ seen. AreTargetsSeen design.now kind targets.now budget seen.width seen.left) }
 {
     let mut width: u8 = 0;
     let mut left = budget;
     for target in targets {
+        if !may_write(target, design, kind) {
+            return None;
+        }
         let seen = one_target(target, design, left)?;
         width = width.checked_add(seen.width)?;
         left = seen.left;

@@ -1,7 +1,7 @@
 use Rattle.std.proofs.Common.{◌+◌, drop}
 use Rattle.design_state.proofs.Turns.{drop_here}
 use Rattle.plain_design.specs.Plain.{IsPlainProcess}
-use Rattle.plain_design.proofs.PlainLaws.{all_cons}
+use Rattle.plain_design.proofs.FineLaws.{all_cons}
 use Rattle.plain_design.proofs.plain.all_small.Goals as goal
 
 pub loop-process-preserved : goal.loop-process-preserved
