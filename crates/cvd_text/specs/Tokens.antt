@@ -1,5 +1,5 @@
 -- What the text of a design is made of: lines of tokens (docs/formats.md, "Design files").
-use Rattle.std.specs.Prelude.{ℕ, ◌/◌, ◌%◌, ◌==◌, Bool, true, false, List, [], ◌∷◌, codes, map, flat_map, if◌then◌else◌}
+use Rattle.std.specs.Prelude.{ℕ, ◌/◌, ◌%◌, ◌==◌, nat_lt, Bool, true, false, List, [], ◌∷◌, codes, map, flat_map, if◌then◌else◌}
 use Rattle.std.specs.List.{slice_split}
 use Rattle.std.specs.Int.Digits.{digits_of}
 use Rattle.circuit_run.specs.Digits.{digit}
@@ -27,9 +27,9 @@ decimal_text n = numeral 10 n
 abbrev pub hex_text : ℕ → List ℕ
 hex_text n = numeral 16 n
 
--- a byte in two hexadecimal digits
+-- a byte in two hexadecimal digits; a number that is no byte stands for itself, so that no text of bytes has it
 abbrev pub byte_text : ℕ → List ℕ
-byte_text byte = digit (byte / 16) ∷ digit (byte % 16) ∷ []
+byte_text byte = if nat_lt byte 256 then digit (byte / 16) ∷ digit (byte % 16) ∷ [] else byte ∷ []
 
 abbrev pub counters_text : List ℕ → List ℕ
 counters_text [] = codes "-"
