@@ -1,0 +1,5 @@
+pub mod Cutting
+pub mod Starts
+pub mod Digits
+pub mod Composed
+pub mod Single

@@ -1,0 +1,4 @@
+pub mod Places
+pub mod Numerals
+pub mod Reads
+pub mod Words

@@ -1,0 +1,11 @@
+//! A cursor over the pieces of a design file's text, and the tokens that are read by it.
+#![tactic(auto)]
+
+mod cursor;
+mod fault;
+mod numeral;
+mod token;
+
+pub use cursor::Cursor;
+pub use fault::ReadFault;
+pub use token::{expect, hex, number, sign};

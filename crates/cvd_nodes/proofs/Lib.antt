@@ -1,0 +1,5 @@
+pub mod Heads
+pub mod Fields
+pub mod Trees
+pub mod Typings
+pub mod Goes
