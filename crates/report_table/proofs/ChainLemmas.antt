@@ -1,5 +1,6 @@
 -- Elements that pass a test, found one from the other.
-use Rattle.std.proofs.Common.{◌≡◌, ℕ, suc, ◌+◌, ◌<◌, ◌≤◌, Bool, true, false, cond, List, [], ◌∷◌, ◌++◌, length, drop, filter, get_or, Option, None, Some, refl, sym, ap, ◌∙◌, subst, arith, length-drop, drop-drop, get_or-drop, drop-cons, append_assoc}
+use Rattle.std.proofs.Common.{◌≡◌, ℕ, suc, ◌+◌, ◌<◌, ◌≤◌, Bool, true, false, cond, List, [], ◌∷◌, ◌++◌, length, drop, filter, get_or, Option, None, Some, refl}
+use Rattle.std.proofs.Common.{sym, ap, ◌∙◌, subst, arith, length-drop, drop-drop, get_or-drop, drop-cons, append_assoc}
 use Rattle.report_table.specs.Chains.{place_in, first_at}
 
 -- what passes from a place on, where there is one
@@ -47,11 +48,13 @@ module _ {A : Type 0} (p : A → Bool) where
   place_of_first up k = place_at up (drop k up) k refl
 
   -- from a place where it passes on
-  pub rest_of_place : (up : List A) (k : ℕ) (d : A) → k < length up → p (get_or up k d) ≡ true → filter p (drop k up) ≡ get_or up k d ∷ filter p (drop (suc k) up)
+  pub rest_of_place : (up : List A) (k : ℕ) (d : A) → k < length up → p (get_or up k d) ≡ true
+      → filter p (drop k up) ≡ get_or up k d ∷ filter p (drop (suc k) up)
   rest_of_place up k d w t = ap (filter p) (drop-cons up k d w) ∙ ap (λ b. cond b (get_or up k d ∷ filter p (drop (suc k) up)) (filter p (drop (suc k) up))) t
 
   -- one element of a group more
-  pub follow_step : (up before after : List A) (k : ℕ) (next : Option ℕ) (d : A) → after ≡ before ++ get_or up k d ∷ [] → before ++ from_place p up (Some k) ≡ filter p up → IsPlace p up (Some k)
+  pub follow_step : (up before after : List A) (k : ℕ) (next : Option ℕ) (d : A) → after ≡ before ++ get_or up k d ∷ []
+      → before ++ from_place p up (Some k) ≡ filter p up → IsPlace p up (Some k)
       → next ≡ first_at p up (suc k) → (after ++ from_place p up next ≡ filter p up) × IsPlace p up next
   follow_step up before after k next d push so_far place is = (
     ap (λ (xs : List A). xs ++ from_place p up next) push

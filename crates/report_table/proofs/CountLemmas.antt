@@ -1,5 +1,6 @@
 -- The least count of a line, found item by item.
-use Rattle.std.proofs.Common.{◌≡◌, ℕ, ◌+◌, ◌<◌, ◌==◌, min, length, drop, get_or, add-one, drop-cons, Bool, true, false, cond, ◌||◌, List, [], ◌∷◌, map, filter, Option, None, Some, refl, sym, ap, ◌∙◌, arith}
+use Rattle.std.proofs.Common.{◌≡◌, ℕ, ◌+◌, ◌<◌, ◌==◌, min, length, drop, get_or, add-one, drop-cons, Bool, true, false, cond, ◌||◌, List, [], ◌∷◌, map, filter}
+use Rattle.std.proofs.Common.{Option, None, Some, refl, sym, ap, ◌∙◌, arith}
 use Rattle.std.specs.List.{list_any, flat_map}
 use Rattle.std.specs.Ordering.{nat_cmp, is_eq, eq_by_cmp}
 use Rattle.std.specs.BTreeMap.{get, IsOrdered, BTreeMap}
@@ -32,7 +33,8 @@ pub swapped_line : (a b : ℕ) → (a == b) ≡ (b == a)
 swapped_line a b = grind (arith, nat_tests)
 
 -- what an insertion of the least gives
-pub line_added : (g h : Option ℕ) (line q c w : ℕ) (G : ℕ → Option ℕ) → G line ≡ g → w ≡ lesser g c → h ≡ cond (is_eq (nat_cmp line q)) (Some w) (G q) → h ≡ offered (G q) (line == q) c
+pub line_added : (g h : Option ℕ) (line q c w : ℕ) (G : ℕ → Option ℕ) → G line ≡ g → w ≡ lesser g c → h ≡ cond (is_eq (nat_cmp line q)) (Some w) (G q)
+    → h ≡ offered (G q) (line == q) c
 line_added g h line q c w G at is e =
     e ∙ ap (λ (b : Bool). cond b (Some w) (G q)) (same_line line q ∙ swapped_line q line)
     ∙ elim (line == q) as (λ b. (line == q) ≡ b → cond b (Some w) (G q) ≡ offered (G q) b c) [
@@ -56,7 +58,8 @@ counts_at n ps = map (λ (p : Point). p.1) (filter (λ p. has_line n (lines_of_p
 least_from : (n : ℕ) (ps : Counts) (a : ℕ) → least_at n ps (Some a) ≡ Some (least (a ∷ counts_at n ps))
 least_from n [] a = refl
 least_from n (p ∷ ps) a =
-    elim (has_line n (lines_of_point p)) as (λ b. least_at n ps (offered (Some a) b p.1) ≡ Some (least (a ∷ map (λ (x : Point). x.1) (cond b (p ∷ filter (λ x. has_line n (lines_of_point x)) ps) (filter (λ x. has_line n (lines_of_point x)) ps))))) [
+    elim (has_line n (lines_of_point p)) as (λ b. least_at n ps (offered (Some a) b p.1)
+    ≡ Some (least (a ∷ map (λ (x : Point). x.1) (cond b (p ∷ filter (λ x. has_line n (lines_of_point x)) ps) (filter (λ x. has_line n (lines_of_point x)) ps))))) [
       | true ↦ least_from n ps (min p.1 a) ∙ ap (λ (m : ℕ). Some m) (least_lesser a p.1 (counts_at n ps))
       | false ↦ least_from n ps a
     ]
@@ -84,7 +87,8 @@ counted_pairs f [] = refl
 counted_pairs f (n ∷ ns) = ap (λ ls. record { line = n; count = f n } ∷ ls) (counted_pairs f ns)
 
 -- a map with the least count of each line has the lines in order as entries
-pub lines_counted : (m : BTreeMap ℕ ℕ) (ps : Counts) → IsOrdered nat_cmp m → ((line : ℕ) → get nat_cmp m line ≡ least_at line ps None) → counted_in m.entries ≡ lines_table ps
+pub lines_counted : (m : BTreeMap ℕ ℕ) (ps : Counts) → IsOrdered nat_cmp m → ((line : ℕ) → get nat_cmp m line ≡ least_at line ps None)
+    → counted_in m.entries ≡ lines_table ps
 lines_counted m ps ordered has =
     ap counted_in (gathers_each nat_cmp nat_cmp_total nat_cmp-IsAntisymmetric m.entries (flat_map lines_of_point ps) (λ n. least (counts_at n ps)) ordered
     (λ q. has q ∙ least_of_line q ps ∙ ap (λ (b : Bool). cond b (Some (least (counts_at q ps))) None) (tests_alike q (flat_map lines_of_point ps))))
@@ -95,7 +99,8 @@ pub drop_here : {A : Type 0} (xs : List A) (k : ℕ) (d : A) → k < length xs �
 drop_here xs k d within = rw (add-one, drop-cons xs k d) refl
 
 -- one run more
-pub runs_step : (q : ℕ) (runs : List LineRange) (k : ℕ) (d : LineRange) (g h : Option ℕ) (c : ℕ) → k < length runs → h ≡ offered g (has_line q (lines_of_range (get_or runs k d))) c
+pub runs_step : (q : ℕ) (runs : List LineRange) (k : ℕ) (d : LineRange) (g h : Option ℕ) (c : ℕ) → k < length runs
+    → h ≡ offered g (has_line q (lines_of_range (get_or runs k d))) c
     → offered h (has_line q (flat_map lines_of_range (drop (k + 1) runs))) c ≡ offered g (has_line q (flat_map lines_of_range (drop k runs))) c
 runs_step q runs k d g h c within is =
     let rest = flat_map lines_of_range (drop (k + 1) runs) in

@@ -1,5 +1,6 @@
 -- What a map of the gathered values of keys has as entries.
-use Rattle.std.proofs.Common.{◌≡◌, Bool, true, false, cond, ◌&&◌, ◌||◌, List, [], ◌∷◌, map, Option, None, Some, option_map, Ordering, refl, sym, ap, ◌∙◌, subst, T}
+use Rattle.std.proofs.Common.{◌≡◌, Bool, true, false, cond, ◌&&◌, ◌||◌, List, [], ◌∷◌, map, Option, None, Some, option_map, Ordering, refl, sym, ap, ◌∙◌, subst}
+use Rattle.std.proofs.Common.{T}
 use Rattle.std.specs.declared.cmp.Ordering.TheVariants.{Less, Equal, Greater}
 use Rattle.std.specs.List.{AllByRecursion, list_any}
 use Rattle.std.specs.List.Sorted.{IsStrictlySortedBy}
@@ -79,7 +80,8 @@ module _ {K : Type 0} (R : K → K → Ordering) where
     find-valued : {X : Type 0} (f : K → X) (q : K) (es : List (K × Unit {0})) → find R q (valued f es) ≡ option_map (λ _. f q) (find R q es)
     find-valued f q [] = refl
     find-valued f q (e ∷ es) =
-        elim (eq_by_cmp R q e.0) as (λ b. eq_by_cmp R q e.0 ≡ b → cond b (Some (f e.0)) (find R q (valued f es)) ≡ option_map (λ _. f q) (cond b (Some e.1) (find R q es))) [
+        elim (eq_by_cmp R q e.0) as (λ b. eq_by_cmp R q e.0 ≡ b
+        → cond b (Some (f e.0)) (find R q (valued f es)) ≡ option_map (λ _. f q) (cond b (Some e.1) (find R q es))) [
           | true ↦ λ t. ap (λ (k : K). Some (f k)) (sym (same q e.0 (tied (R q e.0) t)))
           | false ↦ λ t. find-valued f q es
         ] refl
@@ -98,5 +100,6 @@ module _ {K : Type 0} (R : K → K → Ordering) where
         → es ≡ map (λ k. (k, f k)) (in_order R ks)
     gathers_each es ks f sorted has =
         same_entries R o same es (valued f (placed R ks)) (is_sorted-from_sorted es sorted) (is_sorted-valued f (placed R ks) (is_sorted-placed ks))
-        (λ q. find-lookup q es ∙ has q ∙ sym (find-valued f q (placed R ks) ∙ ap (option_map (λ _. f q)) (find-placed q ks) ∙ chosen (list_any (eq_by_cmp R q) ks) (f q)))
+        (λ q. find-lookup q es ∙ has q ∙ sym (find-valued f q (placed R ks) ∙ ap (option_map (λ _. f q)) (find-placed q ks)
+        ∙ chosen (list_any (eq_by_cmp R q) ks) (f q)))
         ∙ map-valued f (placed R ks)

@@ -1,5 +1,6 @@
 -- Points grouped by a key.
-use Rattle.std.proofs.Common.{◌≡◌, ◌≢◌, ◌==◌, ℕ, suc, ◌<◌, Bool, true, false, cond, List, [], ◌∷◌, length, map, filter, get_or, set, Option, None, Some, refl, sym, ap, ◌∙◌, subst, arith, get_or-set_same, get_or-set_other}
+use Rattle.std.proofs.Common.{◌≡◌, ◌≢◌, ◌==◌, ℕ, suc, ◌<◌, Bool, true, false, cond, List, [], ◌∷◌, length, map, filter, get_or, set, Option, None, Some, refl}
+use Rattle.std.proofs.Common.{sym, ap, ◌∙◌, subst, arith, get_or-set_same, get_or-set_other}
 use Rattle.std.proofs.Math.Logic.{⊎_elim}
 use Rattle.std.proofs.lemmas.Bool.{cases_eq, true≢false}
 use Rattle.std.specs.List.{flat_map}
@@ -30,7 +31,8 @@ module _ {A : Type 0} (p : A → Bool) where
   }
 
   -- where the place doesn't pass, nothing is written
-  pub linked_past : (up : List A) (next : List (Option ℕ)) (k : ℕ) (x : A) → k < length up → IsLinked p up next (suc k) → p (get_or up k x) ≡ false → IsLinked p up next k
+  pub linked_past : (up : List A) (next : List (Option ℕ)) (k : ℕ) (x : A) → k < length up → IsLinked p up next (suc k) → p (get_or up k x) ≡ false
+      → IsLinked p up next k
   linked_past up next k x within linked fails = record {
     next_is = λ j from to passes. ⊎_elim
         (λ (e : j ≡ k). absurd (true≢false (sym (passes x) ∙ ap (λ (i : ℕ). p (get_or up i x)) e ∙ fails)))
@@ -39,9 +41,11 @@ module _ {A : Type 0} (p : A → Bool) where
   }
 
 -- places that rise, with one more
-pub rises_step : (next : List (Option ℕ)) (n k : ℕ) (w : Option ℕ) → Rises next n → k < length next → ((j : ℕ) → w ≡ Some j → (k < j) × (j < n)) → Rises (set next k w) n
+pub rises_step : (next : List (Option ℕ)) (n k : ℕ) (w : Option ℕ) → Rises next n → k < length next → ((j : ℕ) → w ≡ Some j → (k < j) × (j < n))
+    → Rises (set next k w) n
 rises_step next n k w rises within here i j e = ⊎_elim
-    (λ (same : i ≡ k). subst (λ (x : ℕ). (x < j) × (j < n)) (sym same) (here j (sym (get_or-set_same next k w None within) ∙ ap (λ (x : ℕ). get_or (set next k w) x None) (sym same) ∙ e)))
+    (λ (same : i ≡ k). subst (λ (x : ℕ). (x < j) × (j < n)) (sym same) (here j (sym (get_or-set_same next k w None within)
+    ∙ ap (λ (x : ℕ). get_or (set next k w) x None) (sym same) ∙ e)))
     (λ (ne : i ≢ k). rises i j (sym (get_or-set_other next k i w None ne) ∙ e))
     (cases_eq i k)
 
@@ -50,23 +54,27 @@ numbers_counted ps [] = refl
 numbers_counted ps (n ∷ ns) = ap (λ (ms : List ℕ). n ∷ ms) (numbers_counted ps ns)
 
 -- a table with the lines and the points of these points
-pub same_table : (name : List ℕ) (ps : Counts) (ls : List CountedLine) (qs : List PlacedPoint) → ls ≡ lines_table ps → qs ≡ flat_map (placed_in ps) (numbers_of ls)
+pub same_table : (name : List ℕ) (ps : Counts) (ls : List CountedLine) (qs : List PlacedPoint) → ls ≡ lines_table ps
+    → qs ≡ flat_map (placed_in ps) (numbers_of ls)
     → ◌≡◌ {A = Table} (record { name = name; lines = ls; points = qs }) (table_of_points name ps)
 same_table name ps ls qs l q =
-    ap (λ (xs : List PlacedPoint). record { name = name; lines = ls; points = xs }) (q ∙ ap (λ (xs : List CountedLine). flat_map (placed_in ps) (numbers_of xs)) l ∙ ap (flat_map (placed_in ps)) (numbers_counted ps (lines_of_points ps)))
+    ap (λ (xs : List PlacedPoint). record { name = name; lines = ls; points = xs }) (q
+    ∙ ap (λ (xs : List CountedLine). flat_map (placed_in ps) (numbers_of xs)) l ∙ ap (flat_map (placed_in ps)) (numbers_counted ps (lines_of_points ps)))
     ∙ ap (λ (xs : List CountedLine). record { name = name; lines = xs; points = flat_map (placed_in ps) (lines_of_points ps) }) l
 
 -- a test of what is seen
 pub filter-seen : (test : Point → Bool) (ps : List DataPoint) → filter test (seen_points ps) ≡ seen_points (filter (λ p. test (seen_point p)) ps)
 filter-seen test [] = refl
 filter-seen test (p ∷ ps) =
-    elim (test (seen_point p)) as (λ b. cond b (seen_point p ∷ filter test (seen_points ps)) (filter test (seen_points ps)) ≡ seen_points (cond b (p ∷ filter (λ q. test (seen_point q)) ps) (filter (λ q. test (seen_point q)) ps))) [
+    elim (test (seen_point p)) as (λ b. cond b (seen_point p ∷ filter test (seen_points ps)) (filter test (seen_points ps))
+    ≡ seen_points (cond b (p ∷ filter (λ q. test (seen_point q)) ps) (filter (λ q. test (seen_point q)) ps))) [
       | true ↦ ap (λ (qs : Counts). seen_point p ∷ qs) (filter-seen test ps)
       | false ↦ filter-seen test ps
     ]
 
 -- the points of a line, from the group of the line
-pub placed_in_group : (ps : List DataPoint) (n : ℕ) (group : List DataPoint) → group ≡ filter (at_line n) ps → map (placed_at n) (seen_points group) ≡ placed_in (seen_points ps) n
+pub placed_in_group : (ps : List DataPoint) (n : ℕ) (group : List DataPoint) → group ≡ filter (at_line n) ps
+    → map (placed_at n) (seen_points group) ≡ placed_in (seen_points ps) n
 placed_in_group ps n group e =
     ap (λ (g : List DataPoint). map (placed_at n) (seen_points g)) e
     ∙ ap (map (placed_at n)) (sym (filter-seen (λ (p : Point). option_map_or (λ m. m == n) (line_of p) false) ps))
@@ -76,7 +84,8 @@ pub placed_in_none : (ps : List DataPoint) (n : ℕ) → first_at (at_line n) ps
 placed_in_none ps n none = sym (placed_in_group ps n [] (sym (rest_of_first (at_line n) ps 0 ∙ ap (from_place (at_line n) ps) none)))
 
 -- the table of a file, from its group
-pub table_of_group : (ps : List DataPoint) (name : List ℕ) (group : List DataPoint) → group ≡ filter (of_file name) ps → table_of_points name (seen_points group) ≡ table_of (seen_points ps) name
+pub table_of_group : (ps : List DataPoint) (name : List ℕ) (group : List DataPoint) → group ≡ filter (of_file name) ps
+    → table_of_points name (seen_points group) ≡ table_of (seen_points ps) name
 table_of_group ps name group e = ap (table_of_points name) (ap seen_points e ∙ sym (filter-seen (is_of_file name) ps))
 
 -- the first point of a group stands within

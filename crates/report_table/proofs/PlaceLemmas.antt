@@ -1,5 +1,6 @@
 -- The first badly placed point, and the lines counted so far.
-use Rattle.std.proofs.Common.{◌≡◌, ℕ, ◌+◌, ◌<◌, Bool, true, false, cond, ◌&&◌, List, ◌∷◌, length, drop, get_or, Option, None, Some, option_map, is_some, refl, sym, ap, ◌∙◌, arith, if◌then◌else◌}
+use Rattle.std.proofs.Common.{◌≡◌, ℕ, ◌+◌, ◌<◌, Bool, true, false, cond, ◌&&◌, List, ◌∷◌, length, drop, get_or, Option, None, Some, option_map, is_some, refl}
+use Rattle.std.proofs.Common.{sym, ap, ◌∙◌, arith, if◌then◌else◌}
 use Rattle.std.specs.Prelude.{option_and_then}
 use Rattle.std.specs.List.{find}
 use Rattle.std.proofs.lemmas.Bool.{false≢true}
@@ -42,25 +43,32 @@ module _ (up : List DataPoint) (k : ℕ) (d : DataPoint) (within : k < length up
   seen_here = ap seen_points (drop_here up k d within)
 
   -- a key that is badly placed where none before it is
-  pub bad_here : (o : Option ℕ) → find is_badly_placed (seen_points (drop k up)) ≡ find is_badly_placed (seen_points up) → o ≡ None → o ≡ entries_if_placed (get_or up k d).key.now
+  pub bad_here : (o : Option ℕ) → find is_badly_placed (seen_points (drop k up)) ≡ find is_badly_placed (seen_points up) → o ≡ None
+      → o ≡ entries_if_placed (get_or up k d).key.now
       → table_fault (seen_points up) ≡ bad_line_of (get_or up k d).key.now
   bad_here o so_far none is =
-      let bad : is_badly_placed (seen_point (get_or up k d)) ≡ true = none_if (is_badly_placed (seen_point (get_or up k d))) (capped (entries_of (seen_point (get_or up k d)))) o none is in
+      let bad : is_badly_placed (seen_point (get_or up k d))
+      ≡ true = none_if (is_badly_placed (seen_point (get_or up k d))) (capped (entries_of (seen_point (get_or up k d)))) o none is in
       bad_first (seen_points up) (seen_point (get_or up k d))
-      (sym so_far ∙ ap (find is_badly_placed) seen_here ∙ ap (λ (b : Bool). cond b (Some (seen_point (get_or up k d))) (find is_badly_placed (seen_points (drop (k + 1) up)))) bad) bad
+      (sym so_far ∙ ap (find is_badly_placed) seen_here
+      ∙ ap (λ (b : Bool). cond b (Some (seen_point (get_or up k d))) (find is_badly_placed (seen_points (drop (k + 1) up)))) bad) bad
 
   -- a key that isn't
-  pub placed_here : (more : ℕ) → find is_badly_placed (seen_points (drop k up)) ≡ find is_badly_placed (seen_points up) → Some more ≡ entries_if_placed (get_or up k d).key.now
+  pub placed_here : (more : ℕ) → find is_badly_placed (seen_points (drop k up)) ≡ find is_badly_placed (seen_points up)
+      → Some more ≡ entries_if_placed (get_or up k d).key.now
       → find is_badly_placed (seen_points (drop (k + 1) up)) ≡ find is_badly_placed (seen_points up)
   placed_here more so_far is =
       let good = (some_if (is_badly_placed (seen_point (get_or up k d))) (capped (entries_of (seen_point (get_or up k d)))) more is).0 in
-      sym (ap (λ (b : Bool). cond b (Some (seen_point (get_or up k d))) (find is_badly_placed (seen_points (drop (k + 1) up)))) good) ∙ sym (ap (find is_badly_placed) seen_here) ∙ so_far
+      sym (ap (λ (b : Bool). cond b (Some (seen_point (get_or up k d))) (find is_badly_placed (seen_points (drop (k + 1) up)))) good)
+      ∙ sym (ap (find is_badly_placed) seen_here) ∙ so_far
 
   -- its lines are counted
-  pub sum_here : (more before after : ℕ) → capped (before + line_entries (seen_points (drop k up))) ≡ capped (line_entries (seen_points up)) → Some more ≡ entries_if_placed (get_or up k d).key.now
+  pub sum_here : (more before after : ℕ) → capped (before + line_entries (seen_points (drop k up))) ≡ capped (line_entries (seen_points up))
+      → Some more ≡ entries_if_placed (get_or up k d).key.now
       → after ≡ capped (before + more) → capped (after + line_entries (seen_points (drop (k + 1) up))) ≡ capped (line_entries (seen_points up))
   sum_here more before after so_far is sum =
       let rest = line_entries (seen_points (drop (k + 1) up)) in
       let here = entries_of (seen_point (get_or up k d)) in
-      ap (λ (n : ℕ). capped (n + rest)) (sum ∙ ap (λ (n : ℕ). capped (before + n)) (some_if (is_badly_placed (seen_point (get_or up k d))) (capped here) more is).1)
+      ap (λ (n : ℕ). capped (n + rest)) (sum
+      ∙ ap (λ (n : ℕ). capped (before + n)) (some_if (is_badly_placed (seen_point (get_or up k d))) (capped here) more is).1)
       ∙ caps before here rest ∙ ap (λ (ps : Counts). capped (before + line_entries ps)) (sym seen_here) ∙ so_far

@@ -10,7 +10,8 @@ use Rattle.cov_dat.specs.Merging.{Counts}
 use Rattle.report_table.specs.Seen.{by_bytes, names_in, seen_sorted}
 
 -- to insert a borrowed key is to put the key itself
-pub put_seen : (es : List (Bor (List ℕ) × ℕ)) (k : Bor (List ℕ)) (v : ℕ) → seen_sorted (insert_entry by_bytes es k v) ≡ put (slice_cmp nat_cmp) k.now v (seen_sorted es)
+pub put_seen : (es : List (Bor (List ℕ) × ℕ)) (k : Bor (List ℕ)) (v : ℕ)
+    → seen_sorted (insert_entry by_bytes es k v) ≡ put (slice_cmp nat_cmp) k.now v (seen_sorted es)
 put_seen [] k v = refl
 put_seen (e ∷ es) k v = elim (by_bytes k e.0) as (λ o. seen_sorted (match_ordering o ((k, v) ∷ e ∷ es) ((e.0, v) ∷ es) (e ∷ insert_entry by_bytes es k v))
     ≡ by_order o ((k.now, v) ∷ (e.0.now, e.1) ∷ seen_sorted es) ((e.0.now, v) ∷ seen_sorted es) ((e.0.now, e.1) ∷ put (slice_cmp nat_cmp) k.now v (seen_sorted es))) [
@@ -32,7 +33,8 @@ put_name (e ∷ es) k v = elim (by_bytes k e.0) as (λ o. map (λ x. (x.0.now, t
     ]
 
 -- a key and its count
-pub pair_at : (es : Counts) (n : ℕ) (k : List ℕ) (c : ℕ) → slice_get (map (λ e. e.0) es) n ≡ Some k → slice_get (map (λ e. e.1) es) n ≡ Some c → slice_get es n ≡ Some (k, c)
+pub pair_at : (es : Counts) (n : ℕ) (k : List ℕ) (c : ℕ) → slice_get (map (λ e. e.0) es) n ≡ Some k → slice_get (map (λ e. e.1) es) n ≡ Some c
+    → slice_get es n ≡ Some (k, c)
 pair_at [] n k c a b = absurd (cc)
 pair_at (e ∷ es) zero k c a b =
     let first : e.0 ≡ k = cc in

@@ -23,7 +23,8 @@ module _ (up : List DataPoint) (k : ℕ) (d : DataPoint) (within : k < length up
   -- ---- lines
 
   pub line_passed : None ≡ line_of ((get_or up k d).key.now, 0) → (q : ℕ) → first_at (at_line q) up (suc k) ≡ first_at (at_line q) up k
-  line_passed none q = sym (first_step (at_line q) up k d within ∙ ap (λ (o : Option ℕ). cond (option_map_or (λ m. m == q) o false) (Some k) (first_at (at_line q) up (suc k))) (sym none))
+  line_passed none q = sym (first_step (at_line q) up k d within
+      ∙ ap (λ (o : Option ℕ). cond (option_map_or (λ m. m == q) o false) (Some k) (first_at (at_line q) up (suc k))) (sym none))
 
   pub line_fails : None ≡ line_of ((get_or up k d).key.now, 0) → (q : ℕ) → at_line q (get_or up k d) ≡ false
   line_fails none q = ap (λ (o : Option ℕ). option_map_or (λ m. m == q) o false) (sym none)
@@ -32,7 +33,8 @@ module _ (up : List DataPoint) (k : ℕ) (d : DataPoint) (within : k < length up
       → ((q : ℕ) → H q ≡ cond (is_eq (nat_cmp line q)) (Some k) (G q)) → (q : ℕ) → H q ≡ first_at (at_line q) up k
   line_firsts line G H is g h q =
       h q ∙ ap (λ (b : Bool). cond b (Some k) (G q)) (same_line line q ∙ swapped_line q line) ∙ ap (λ (o : Option ℕ). cond (line == q) (Some k) o) (g q)
-      ∙ sym (first_step (at_line q) up k d within ∙ ap (λ (o : Option ℕ). cond (option_map_or (λ m. m == q) o false) (Some k) (first_at (at_line q) up (suc k))) (sym is))
+      ∙ sym (first_step (at_line q) up k d within
+      ∙ ap (λ (o : Option ℕ). cond (option_map_or (λ m. m == q) o false) (Some k) (first_at (at_line q) up (suc k))) (sym is))
 
   pub line_here : (line q : ℕ) (w : Option ℕ) → Some line ≡ line_of ((get_or up k d).key.now, 0) → w ≡ first_at (at_line line) up (suc k)
       → at_line q (get_or up k d) ≡ true → w ≡ first_at (at_line q) up (suc k)
@@ -43,7 +45,8 @@ module _ (up : List DataPoint) (k : ℕ) (d : DataPoint) (within : k < length up
   -- ---- files
 
   pub file_passed : None ≡ file_of ((get_or up k d).key.now, 0) → (q : List ℕ) → first_at (of_file q) up (suc k) ≡ first_at (of_file q) up k
-  file_passed none q = sym (first_step (of_file q) up k d within ∙ ap (λ (o : Option (List ℕ)). cond (option_map_or (bytes_eq q) o false) (Some k) (first_at (of_file q) up (suc k))) (sym none))
+  file_passed none q = sym (first_step (of_file q) up k d within
+      ∙ ap (λ (o : Option (List ℕ)). cond (option_map_or (bytes_eq q) o false) (Some k) (first_at (of_file q) up (suc k))) (sym none))
 
   pub file_fails : None ≡ file_of ((get_or up k d).key.now, 0) → (q : List ℕ) → of_file q (get_or up k d) ≡ false
   file_fails none q = ap (λ (o : Option (List ℕ)). option_map_or (bytes_eq q) o false) (sym none)
@@ -54,7 +57,8 @@ module _ (up : List DataPoint) (k : ℕ) (d : DataPoint) (within : k < length up
   file_firsts file G H is g h q =
       h q ∙ ap (λ (b : Bool). cond b (Some k) (G q)) (is_eq-slice_cmp file.now q.now ∙ nat_list_eq_equiv.symm file.now q.now)
       ∙ ap (λ (o : Option ℕ). cond (bytes_eq q.now file.now) (Some k) o) (g q)
-      ∙ sym (first_step (of_file q.now) up k d within ∙ ap (λ (o : Option (List ℕ)). cond (option_map_or (bytes_eq q.now) o false) (Some k) (first_at (of_file q.now) up (suc k))) (sym is))
+      ∙ sym (first_step (of_file q.now) up k d within
+      ∙ ap (λ (o : Option (List ℕ)). cond (option_map_or (bytes_eq q.now) o false) (Some k) (first_at (of_file q.now) up (suc k))) (sym is))
 
   pub file_here : (file q : List ℕ) (w : Option ℕ) → Some file ≡ file_of ((get_or up k d).key.now, 0) → w ≡ first_at (of_file file) up (suc k)
       → of_file q (get_or up k d) ≡ true → w ≡ first_at (of_file q) up (suc k)
@@ -62,12 +66,14 @@ module _ (up : List DataPoint) (k : ℕ) (d : DataPoint) (within : k < length up
       let test : bytes_eq q file ≡ true = sym (ap (λ (o : Option (List ℕ)). option_map_or (bytes_eq q) o false) (sym is)) ∙ t in
       e ∙ ap (λ (n : List ℕ). first_at (of_file n) up (suc k)) (sym ((bytes_eq-Decides q file).0 test))
 
-  files_here : (o : Option (List ℕ)) → o ≡ file_of ((get_or up k d).key.now, 0) → cons_option o (filter_map file_of (seen_points (drop (suc k) up))) ≡ filter_map file_of (seen_points (drop k up))
+  files_here : (o : Option (List ℕ)) → o ≡ file_of ((get_or up k d).key.now, 0)
+      → cons_option o (filter_map file_of (seen_points (drop (suc k) up))) ≡ filter_map file_of (seen_points (drop k up))
   files_here o is = ap (λ (x : Option (List ℕ)). cons_option x (filter_map file_of (seen_points (drop (suc k) up)))) (sym (sym is))
       ∙ ap (λ (xs : List DataPoint). filter_map file_of (seen_points xs)) (sym (drop-cons up k d within))
 
   pub names_passed : (es : List (List ℕ × Unit {0})) → None ≡ file_of ((get_or up k d).key.now, 0)
-      → es ≡ placed (slice_cmp nat_cmp) (filter_map file_of (seen_points (drop (suc k) up))) → es ≡ placed (slice_cmp nat_cmp) (filter_map file_of (seen_points (drop k up)))
+      → es ≡ placed (slice_cmp nat_cmp) (filter_map file_of (seen_points (drop (suc k) up)))
+      → es ≡ placed (slice_cmp nat_cmp) (filter_map file_of (seen_points (drop k up)))
   names_passed es none e = e ∙ ap (placed (slice_cmp nat_cmp)) (files_here None none)
 
   pub names_here : (file : List ℕ) (es fs : List (List ℕ × Unit {0})) → Some file ≡ file_of ((get_or up k d).key.now, 0)

@@ -1,11 +1,13 @@
 -- Private: what contracts see of points and maps that borrow their keys.
-use Rattle.std.specs.Prelude.{ℕ, List, map}
+use Rattle.std.specs.Prelude.{◌≡◌, ℕ, List, map, All, codes}
+use Rattle.std.specs.Option.{option_copied}
 use Rattle.std.specs.Borrow.{Bor}
 use Rattle.std.specs.Ordering.{nat_cmp}
 use Rattle.std.specs.Cmp.Lexicographic.{slice_cmp}
 use Rattle.std.specs.declared.cmp.Ordering.{Ordering}
+use Rattle.cov_dat.specs.KeyFields.{field}
 use Rattle.cov_dat.specs.Merging.{Counts}
-use Rattle.report_text.specs.Items.{Point}
+use Rattle.report_text.specs.Items.{Point, line_of}
 use Rattle.report_table.specs.declared.data_point.DataPoint.{DataPoint}
 
 -- a point with the key itself
@@ -14,6 +16,15 @@ seen_point p = (p.key.now, p.count)
 
 abbrev pub seen_points : List DataPoint → Counts
 seen_points ps = map seen_point ps
+
+-- what is kept beside the key is what the key tells
+pub record IsRead (p : DataPoint) : Type 0 where
+  pub file : option_copied p.file ≡ field p.key.now (codes "f")
+  pub line : p.line ≡ line_of (p.key.now, 0)
+  pub list : option_copied p.list ≡ field p.key.now (codes "S")
+
+abbrev pub AreRead : List DataPoint → Type 0
+AreRead ps = All IsRead ps
 
 -- entries with the keys themselves
 abbrev pub seen_sorted : List (Bor (List ℕ) × ℕ) → Counts

@@ -7,7 +7,7 @@ ghost use Rattle.std.specs.FinMap.{entries};
 ghost use Rattle.cov_dat.specs.DataText.{count_map};
 ghost use Rattle.report_text.specs.Faults.{table_fault, TellsFault};
 ghost use Rattle.report_text.specs.Tables.{seen_table, seen_tables, table_of, tables_of};
-ghost use Rattle.report_table.specs.Seen.{by_bytes, names_in, seen_points};
+ghost use Rattle.report_table.specs.Seen.{AreRead, by_bytes, names_in, seen_points};
 
 use crate::data_point::DataPoint;
 use crate::file_groups::{FileGroups, file_groups};
@@ -35,6 +35,7 @@ pub fn tables(alloc: Global, merged: &Merged) -> Result<Vec<FileTable<'_>>, Repo
 
 /// The tables of the files of these points.
 fn group_tables<'a>(alloc: Global, points: &[DataPoint<'a>]) -> Result<Vec<FileTable<'a>>, NoMemory>
+    requires { AreRead points.now }
     ensures { IfOk result (λ tables. seen_tables tables.items ≡ tables_of (seen_points points.now)) }
 {
     let groups = file_groups(alloc, points)?;
@@ -46,6 +47,7 @@ fn named_tables<'a>(
     points: &[DataPoint<'a>],
     groups: &FileGroups<'a>,
 ) -> Result<Vec<FileTable<'a>>, NoMemory>
+    requires read { AreRead points.now }
     requires first { (file : Bor (List ℕ)) → get by_bytes groups.now.first file ≡ first_at (of_file file.now) points.now 0 }
     requires linked { (file : List ℕ) → IsLinked (of_file file) points.now groups.now.next.items 0 }
     requires rises { Rises groups.now.next.items (length points.now) }
@@ -67,6 +69,7 @@ fn named_table<'a>(
     name: &'a [u8],
     first: usize,
 ) -> Result<FileTable<'a>, NoMemory>
+    requires read { AreRead points.now }
     requires first { first_at (of_file name.now) points.now 0 ≡ Some first }
     requires linked { IsLinked (of_file name.now) points.now next.now 0 }
     requires rises { Rises next.now (length points.now) }

@@ -6,7 +6,7 @@ ghost use Rattle.report_table.specs.Groups.{at_line};
 ghost use Rattle.std.specs.List.{flat_map};
 ghost use Rattle.report_text.specs.Tables.{placed_at, seen_table};
 ghost use Rattle.report_table.specs.FileTables.{counted_in, lines_table, numbers_of, placed_in, seen_placed, table_of_points};
-ghost use Rattle.report_table.specs.Seen.{seen_points};
+ghost use Rattle.report_table.specs.Seen.{AreRead, seen_points};
 
 use crate::data_point::DataPoint;
 use crate::follow::follow;
@@ -23,6 +23,7 @@ pub(crate) fn file_table<'a>(
     name: &'a [u8],
     points: &[DataPoint<'a>],
 ) -> Result<FileTable<'a>, NoMemory>
+    requires { AreRead points.now }
     ensures { IfOk result (λ table. seen_table table ≡ table_of_points name.now (seen_points points.now)) }
 {
     let lines = counted_lines(alloc, points)?;
@@ -36,6 +37,7 @@ pub(crate) fn file_table<'a>(
 
 /// The lines with their counts, ascending.
 fn counted_lines(alloc: Global, points: &[DataPoint]) -> Result<Vec<CountedLine>, NoMemory>
+    requires { AreRead points.now }
     ensures { IfOk result (λ lines. lines.items ≡ lines_table (seen_points points.now)) }
 {
     let counts = line_counts(alloc, points)?;
@@ -62,6 +64,7 @@ fn line_points<'a>(
     lines: &[CountedLine],
     points: &[DataPoint<'a>],
 ) -> Result<Vec<LinePoint<'a>>, AllocError>
+    requires { AreRead points.now }
     ensures { IfOk result (λ placed. seen_placed placed.items ≡ flat_map (placed_in (seen_points points.now)) (numbers_of lines.now)) }
 {
     let groups = line_groups(alloc, points)?;

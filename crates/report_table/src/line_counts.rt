@@ -4,11 +4,9 @@ ghost use Rattle.std.specs.List.{list_any, flat_map};
 ghost use Rattle.std.specs.Ordering.{nat_cmp};
 ghost use Rattle.report_text.specs.Items.{lines_of_point, lines_of_range};
 ghost use Rattle.report_table.specs.LineCounts.{offered, has_line, least_at};
-ghost use Rattle.report_table.specs.Seen.{seen_point, seen_points};
+ghost use Rattle.report_table.specs.Seen.{AreRead, IsRead, seen_point, seen_points};
 
 use crate::data_point::DataPoint;
-use crate::placing::own_line;
-use cov_dat::field;
 use cov_port::{LineRange, NoMemory, read_lines};
 use std::alloc::Global;
 use std::collections::BTreeMap;
@@ -18,6 +16,7 @@ pub(crate) fn line_counts(
     alloc: Global,
     points: &[DataPoint],
 ) -> Result<BTreeMap<u32, u64>, NoMemory>
+    requires { AreRead points.now }
     ensures { IfOk result (λ counts. (line : ℕ) → get nat_cmp counts line ≡ least_at line (seen_points points.now) None) }
 {
     let mut counts = BTreeMap::new(alloc);
@@ -33,12 +32,13 @@ fn add_point(
     counts: &mut BTreeMap<u32, u64>,
     point: &DataPoint,
 ) -> Result<(), NoMemory>
+    requires { IsRead point.now }
     ensures { OnOk result ((line : ℕ) → get nat_cmp counts.new line ≡ offered (get nat_cmp counts.old line) (has_line line (lines_of_point (seen_point point.now))) point.now.count) }
 {
-    if let Some(line) = own_line(point.key) {
+    if let Some(line) = point.line() {
         add_line(counts, line, point.count)?;
     }
-    let Some(text) = field(point.key, b"S") else {
+    let Some(text) = point.list() else {
         return Ok(());
     };
     match read_lines(alloc, text)? {
@@ -69,10 +69,11 @@ fn add_run(counts: &mut BTreeMap<u32, u64>, run: &LineRange, count: u64) -> Resu
 fn add_line(counts: &mut BTreeMap<u32, u64>, line: u32, count: u64) -> Result<(), NoMemory>
     ensures { OnOk result ((q : ℕ) → get nat_cmp counts.new q ≡ offered (get nat_cmp counts.old q) (line == q) count) }
 {
-    let least = match counts.get(&line) {
-        Some(before) => count.min(*before),
-        None => count,
-    };
-    counts.insert(line, least)?;
-    Ok(())
+    match counts.insert(line, count)? {
+        Some(before) if before < count => {
+            counts.insert(line, before)?;
+            Ok(())
+        }
+        _ => Ok(()),
+    }
 }

@@ -3,9 +3,9 @@ ghost use Rattle.std.specs.BTreeMap.{get};
 ghost use Rattle.std.specs.Ordering.{nat_cmp};
 ghost use Rattle.report_table.specs.Chains.{first_at, IsLinked, Rises};
 ghost use Rattle.report_table.specs.Groups.{at_line};
+ghost use Rattle.report_table.specs.Seen.{AreRead};
 
 use crate::data_point::DataPoint;
-use crate::placing::own_line;
 use std::alloc::{AllocError, Global};
 use std::collections::BTreeMap;
 
@@ -17,6 +17,7 @@ pub(crate) struct LineGroups {
 }
 
 pub(crate) fn line_groups(alloc: Global, points: &[DataPoint]) -> Result<LineGroups, AllocError>
+    requires read { AreRead points.now }
     ensures first { IfOk result (λ groups. (line : ℕ) → get nat_cmp groups.first line ≡ first_at (at_line line) points.now 0) }
     ensures linked { IfOk result (λ groups. (line : ℕ) → IsLinked (at_line line) points.now groups.next.items 0) }
     ensures rises { IfOk result (λ groups. Rises groups.next.items (length points.now)) }
@@ -27,7 +28,7 @@ pub(crate) fn line_groups(alloc: Global, points: &[DataPoint]) -> Result<LineGro
     let mut left = points.len();
     'points: while left > 0 {
         left -= 1;
-        if let Some(line) = own_line(points[left].key) {
+        if let Some(line) = points[left].line() {
             next[left] = first.insert(line, left)?;
         }
     }

@@ -1,7 +1,7 @@
 ghost use Rattle.std.specs.Prelude.{◌≡◌, IfOk};
 ghost use Rattle.std.specs.FinMap.{entries};
 ghost use Rattle.cov_dat.specs.DataText.{count_map};
-ghost use Rattle.report_table.specs.Seen.{seen_points, seen_sorted};
+ghost use Rattle.report_table.specs.Seen.{AreRead, seen_points, seen_sorted};
 
 use crate::data_point::DataPoint;
 use cov_dat::Merged;
@@ -10,7 +10,8 @@ use std::collections::BTreeMap;
 
 /// The points in byte order of keys.
 pub(crate) fn ordered(alloc: Global, merged: &Merged) -> Result<Vec<DataPoint<'_>>, AllocError>
-    ensures { IfOk result (λ points. seen_points points.items ≡ entries (count_map merged.now)) }
+    ensures points { IfOk result (λ points. seen_points points.items ≡ entries (count_map merged.now)) }
+    ensures read { IfOk result (λ points. AreRead points.items) }
 {
     let sorted = sorted(alloc, merged)?;
     listed(alloc, &sorted)
@@ -32,14 +33,12 @@ fn listed<'a>(
     alloc: Global,
     sorted: &BTreeMap<&'a [u8], u64>,
 ) -> Result<Vec<DataPoint<'a>>, AllocError>
-    ensures { IfOk result (λ points. seen_points points.items ≡ seen_sorted sorted.now.entries) }
+    ensures points { IfOk result (λ points. seen_points points.items ≡ seen_sorted sorted.now.entries) }
+    ensures read { IfOk result (λ points. AreRead points.items) }
 {
     let mut points = Vec::new(alloc);
     for (key, count) in sorted {
-        points.push(DataPoint {
-            key: *key,
-            count: *count,
-        })?;
+        points.push(DataPoint::new(*key, *count))?;
     }
     Ok(points)
 }

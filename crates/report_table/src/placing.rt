@@ -1,31 +1,29 @@
 ghost use Rattle.std.specs.Prelude.{◌≡◌, ◌+◌, ◌≤◌, None, length, IfOk, IfErr, OnOk};
 ghost use Rattle.cov_port.specs.Sums.{total};
 ghost use Rattle.report_text.specs.Faults.{table_fault, TellsFault};
-ghost use Rattle.report_text.specs.Items.{line_of, lines_of_range};
+ghost use Rattle.report_text.specs.Items.{lines_of_range};
 ghost use Rattle.report_table.specs.Placing.{bad_line_of, capped, entries_if_placed, run_lengths};
-ghost use Rattle.report_table.specs.Seen.{seen_points};
+ghost use Rattle.report_table.specs.Seen.{AreRead, IsRead, seen_points};
 
 use crate::data_point::DataPoint;
 use cov_dat::field;
-use cov_port::{ByteText, LimitName, LineRange, NoMemory, read_dec, read_lines};
+use cov_port::{ByteText, LimitName, LineRange, NoMemory, read_lines};
 use report_text::ReportFault;
 use std::alloc::Global;
 
 /// The most lines of all line lists.
 const MOST_ENTRIES: u64 = 67_108_864;
 
-/// The greatest number of a line.
-const MOST_LINE_NUMBER: u64 = 4_194_304;
-
 /// Tests that each point of a file tells its line, and that the lines of all line lists aren't too many. It takes memory for the
 /// runs of one line list at a time.
-pub(crate) fn test_places(alloc: Global, points: &[DataPoint]) -> Result<(), ReportFault>
+pub(crate) fn test_places(alloc: Global, points: &[DataPoint<'_>]) -> Result<(), ReportFault>
+    requires read { AreRead points.now }
     ensures sound { OnOk result (table_fault (seen_points points.now) ≡ None) }
     ensures fault { IfErr result (TellsFault (table_fault (seen_points points.now))) }
 {
     let mut entries = 0;
     'points: for point in points {
-        match point_entries(alloc, point.key) {
+        match point_entries(alloc, point) {
             Ok(Some(more)) => entries = capped_sum(entries, more),
             Ok(None) => return Err(bad_key_line(alloc, point.key)),
             Err(_) => return Err(ReportFault::NoMemory),
@@ -50,32 +48,23 @@ fn bad_key_line(alloc: Global, key: &[u8]) -> ReportFault
     }
 }
 
-/// How many lines the key counts towards the limit, up to one past it; nothing where it is badly placed.
-fn point_entries(alloc: Global, key: &[u8]) -> Result<Option<u64>, NoMemory>
-    ensures { IfOk result (λ entries. entries ≡ entries_if_placed key.now) }
+/// How many lines the point counts towards the limit, up to one past it; nothing where its key is badly placed.
+fn point_entries(alloc: Global, point: &DataPoint<'_>) -> Result<Option<u64>, NoMemory>
+    requires { IsRead point.now }
+    ensures { IfOk result (λ entries. entries ≡ entries_if_placed point.now.key.now) }
 {
-    if field(key, b"f").is_none() {
+    if point.file().is_none() {
         return Ok(Some(0));
     }
-    if own_line(key).is_none() {
+    if point.line().is_none() {
         return Ok(None);
     }
-    let Some(text) = field(key, b"S") else {
+    let Some(text) = point.list() else {
         return Ok(Some(1));
     };
     match read_lines(alloc, text)? {
         Some(runs) => Ok(Some(run_entries(runs.as_slice()))),
         None => Ok(None),
-    }
-}
-
-/// The number of the key's line, where its `l` is one.
-pub(crate) fn own_line(key: &[u8]) -> Option<u32>
-    ensures { result ≡ line_of (key.now, 0) }
-{
-    match read_dec(field(key, b"l")?, MOST_LINE_NUMBER) {
-        Some(number) if number >= 1 => Some(number as u32),
-        _ => None,
     }
 }
 

@@ -28,7 +28,8 @@ points-preserved-in-Some c =
     let before : w ≡ first_at (of_file file.now) up (suc k) = c.in_ok-next-2.ensures.old ∙ firsts file in
     record {
       names = names_here up k _ within file.now _ _ c.in-Some.ensures
-          (subst (λ (n : ℕ). names_of c.points.first.entries ≡ placed (slice_cmp nat_cmp) (filter_map file_of (seen_points (drop n up)))) next c.points.invariant.names)
+          (subst (λ (n : ℕ). names_of c.points.first.entries
+          ≡ placed (slice_cmp nat_cmp) (filter_map file_of (seen_points (drop n up)))) next c.points.invariant.names)
           (ap names_of c.in_ok-next-2.ensures.entries ∙ put_name c.points.first.entries file k);
       firsts = file_firsts up k _ within file (λ q. get by_bytes c.points.first q) (λ q. get by_bytes c.insert.new.self q) c.in-Some.ensures firsts (λ q. c.in_ok-next-2.ensures.updates.0 q);
       linked = λ q. linked_step (of_file q) up c.points.next.items k w c.points.invariant.len within
@@ -48,8 +49,10 @@ points-preserved c =
     let within : k < length up = omega (arith, c.points.invariant.within) in
     record {
       names = names_passed up k _ within _ c.in_default.ensures
-          (subst (λ (n : ℕ). names_of c.points.first.entries ≡ placed (slice_cmp nat_cmp) (filter_map file_of (seen_points (drop n up)))) next c.points.invariant.names);
-      firsts = λ q. subst (λ (n : ℕ). get by_bytes c.points.first q ≡ first_at (of_file q.now) up n) next (c.points.invariant.firsts q) ∙ file_passed up k _ within c.in_default.ensures q.now;
+          (subst (λ (n : ℕ). names_of c.points.first.entries
+          ≡ placed (slice_cmp nat_cmp) (filter_map file_of (seen_points (drop n up)))) next c.points.invariant.names);
+      firsts = λ q. subst (λ (n : ℕ). get by_bytes c.points.first q ≡ first_at (of_file q.now) up n) next (c.points.invariant.firsts q)
+          ∙ file_passed up k _ within c.in_default.ensures q.now;
       linked = λ q. linked_past (of_file q) up c.points.next.items k _ within
           (subst (λ (n : ℕ). IsLinked (of_file q) up c.points.next.items n) next (c.points.invariant.linked q))
           (file_fails up k _ within c.in_default.ensures q);
@@ -69,4 +72,5 @@ returns-clause-names c =
     let none : c.points.left ≡ 0 = omega (arith, c.points-test.false) in
     names_keys c.points.first.entries
     ∙ ap (λ (es : List (List ℕ × Unit {0})). map (λ e. e.0) es)
-    (subst (λ (n : ℕ). names_of c.points.first.entries ≡ placed (slice_cmp nat_cmp) (filter_map file_of (seen_points (drop n up)))) none c.points.invariant.names)
+    (subst (λ (n : ℕ). names_of c.points.first.entries
+    ≡ placed (slice_cmp nat_cmp) (filter_map file_of (seen_points (drop n up)))) none c.points.invariant.names)

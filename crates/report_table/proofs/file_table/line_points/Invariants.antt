@@ -5,4 +5,5 @@ use Rattle.report_table.specs.Seen.{seen_points}
 use Rattle.report_table.proofs.file_table.line_points.Given as goal
 
 abbrev pub invariant-lines : goal.invariant-lines
-invariant-lines l = seen_placed l.placed.items ++ flat_map (placed_in (seen_points l.points)) (numbers_of (drop l.line-index l.lines)) ≡ flat_map (placed_in (seen_points l.points)) (numbers_of l.lines)
+invariant-lines l = seen_placed l.placed.items ++ flat_map (placed_in (seen_points l.points)) (numbers_of (drop l.line-index l.lines))
+    ≡ flat_map (placed_in (seen_points l.points)) (numbers_of l.lines)

@@ -10,7 +10,8 @@ use Rattle.report_table.proofs.file_table.push_line.Goals as goal
 pub returns-in_default : goal.returns-in_default
 returns-in_default c =
     let old = seen_placed c.args.placed.now.items in
-    sym (ap (λ (xs : List PlacedPoint). old ++ xs) (placed_in_none c.args.points.now c.args.line (sym (c.requires.first c.args.line) ∙ sym c.in_default.ensures.value)) ∙ append-nil old)
+    sym (ap (λ (xs : List PlacedPoint). old ++ xs) (placed_in_none c.args.points.now c.args.line (sym (c.requires.first c.args.line)
+    ∙ sym c.in_default.ensures.value)) ∙ append-nil old)
 
 pub follow-requires-clause-within : goal.follow-requires-clause-within
 follow-requires-clause-within c =

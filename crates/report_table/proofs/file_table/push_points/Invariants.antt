@@ -5,4 +5,5 @@ use Rattle.report_table.specs.Seen.{seen_points}
 use Rattle.report_table.proofs.file_table.push_points.Given as goal
 
 abbrev pub invariant-points : goal.invariant-points
-invariant-points l = seen_placed l.placed.items ++ map (placed_at l.line) (seen_points (drop l.point-index l.points)) ≡ seen_placed l.initial.placed.items ++ map (placed_at l.line) (seen_points l.points)
+invariant-points l = seen_placed l.placed.items ++ map (placed_at l.line) (seen_points (drop l.point-index l.points)) ≡ seen_placed l.initial.placed.items
+    ++ map (placed_at l.line) (seen_points l.points)

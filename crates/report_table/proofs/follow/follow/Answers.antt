@@ -9,7 +9,8 @@ chain-init c =
     record {
       within = λ k e. let same : c.args.first ≡ k = cc in subst (λ (n : ℕ). n < length up) same c.requires.within;
       so_far = λ p linked at. (
-        ap (λ (xs : List DataPoint). xs ++ from_place p up (Some c.args.first)) c.new-group.ensures.items ∙ ap (from_place p up) (sym at) ∙ sym (rest_of_first p up 0),
+        ap (λ (xs : List DataPoint). xs ++ from_place p up (Some c.args.first)) c.new-group.ensures.items ∙ ap (from_place p up) (sym at)
+            ∙ sym (rest_of_first p up 0),
         subst (IsPlace p up) at (place_of_first p up 0),
       );
     }

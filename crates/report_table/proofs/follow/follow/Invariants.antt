@@ -11,7 +11,8 @@ left_of n (Some k) = n - k
 abbrev pub invariant-chain : goal.invariant-chain
 invariant-chain l = record {
   within : (k : ℕ) → l.at ≡ Some k → k < length l.points;
-  so_far : (p : DataPoint → Bool) → IsLinked p l.points l.next 0 → first_at p l.points 0 ≡ Some l.first → (l.group.items ++ from_place p l.points l.at ≡ filter p l.points) × IsPlace p l.points l.at;
+  so_far : (p : DataPoint → Bool) → IsLinked p l.points l.next 0 → first_at p l.points 0 ≡ Some l.first
+      → (l.group.items ++ from_place p l.points l.at ≡ filter p l.points) × IsPlace p l.points l.at;
 }
 
 abbrev pub decreases-chain : goal.decreases-chain

@@ -16,5 +16,6 @@ lines-preserved c = λ q.
     let rest = has_line q (range_with_len (line + 1) left) in
     ap (λ (g : Option ℕ). offered g rest count) (c.in_ok-add_line.ensures q)
     ∙ sym (offered_twice (get nat_cmp c.lines.counts q) (line == q) rest count)
-    ∙ subst (λ (n : ℕ). offered (get nat_cmp c.lines.counts q) (has_line q (range_with_len line n)) count ≡ offered (get nat_cmp c.args.counts.now q) (has_line q (lines_of_range c.args.run.now)) count)
+    ∙ subst (λ (n : ℕ). offered (get nat_cmp c.lines.counts q) (has_line q (range_with_len line n)) count
+    ≡ offered (get nat_cmp c.args.counts.now q) (has_line q (lines_of_range c.args.run.now)) count)
     next (c.lines.invariant q)

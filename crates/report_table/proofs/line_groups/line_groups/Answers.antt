@@ -36,7 +36,8 @@ points-preserved c =
     let next : c.points.left ≡ suc k = omega (arith, c.points-test.true) in
     let within : k < length up = omega (arith, c.points.invariant.within) in
     record {
-      firsts = λ q. subst (λ (n : ℕ). get nat_cmp c.points.first q ≡ first_at (at_line q) up n) next (c.points.invariant.firsts q) ∙ line_passed up k _ within c.in_default.ensures q;
+      firsts = λ q. subst (λ (n : ℕ). get nat_cmp c.points.first q ≡ first_at (at_line q) up n) next (c.points.invariant.firsts q)
+          ∙ line_passed up k _ within c.in_default.ensures q;
       linked = λ q. linked_past (at_line q) up c.points.next.items k _ within
           (subst (λ (n : ℕ). IsLinked (at_line q) up c.points.next.items n) next (c.points.invariant.linked q))
           (line_fails up k _ within c.in_default.ensures q);

@@ -17,6 +17,7 @@ points-preserved c =
     let more : Some c.in-Ok-Some.more ≡ c.in-Ok-Some.field-0 = sym c.in-Ok-Some.field-0-is in
     record {
       placed = placed_here up k _ c.points-test.true c.in-Ok-Some.more c.points.invariant.placed (more ∙ c.in-Ok-Some.ensures);
-      sum = sum_here up k _ c.points-test.true c.in-Ok-Some.more c.points.entries c.capped_sum-entries.result c.points.invariant.sum (more ∙ c.in-Ok-Some.ensures) c.capped_sum-entries.ensures;
+      sum = sum_here up k _ c.points-test.true c.in-Ok-Some.more c.points.entries c.capped_sum-entries.result c.points.invariant.sum (more
+          ∙ c.in-Ok-Some.ensures) c.capped_sum-entries.ensures;
       within = omega (arith, c.capped_sum-entries.ensures);
     }
