@@ -1,5 +1,7 @@
 -- Flags of variables, span by span.
-use Rattle.std.proofs.Common.{◌≡◌, ◌≢◌, ◌∙◌, sym, ap, subst, refl, ℕ, ◌+◌, ◌<◌, ◌≤◌, ◌==◌, ◌⊎◌, inl, inr, Bool, true, false, ◌||◌, ◌&&◌, if◌then◌else◌, Option, Some, None, List, [], ◌∷◌, ◌++◌, append-nil, length, get_or, set, take, drop, eqb-true, eq-eqb, get_or-set_other, get_or-set_same, arith}
+use Rattle.std.proofs.Common.{◌≡◌, ◌≢◌, ◌∙◌, sym, ap, subst, refl, ℕ, ◌+◌, ◌<◌, ◌≤◌, ◌==◌, ◌⊎◌, inl, inr, Bool, true, false, ◌||◌, ◌&&◌, if◌then◌else◌, Option}
+use Rattle.std.proofs.Common.{Some, None, List, [], ◌∷◌, ◌++◌, append-nil, length, get_or, set, take, drop, eqb-true, eq-eqb, get_or-set_other, get_or-set_same}
+use Rattle.std.proofs.Common.{arith}
 use Rattle.std.specs.Prelude.{IsTrue, All}
 use Rattle.std.specs.List.{list_any}
 use Rattle.std.proofs.lemmas.List.{get_or_past, take_all, drop_all}
@@ -81,8 +83,10 @@ module _ (spans : List Span) (i : ℕ) (d : Span) (lt : i < length spans) where
   pub flagged_next : (g : ℕ → Bool) (a : Option ℕ) → IsLeastOf (λ v. IsTrue (has_var (take i spans) v && g v)) a → g s.var ≡ true
       → IsLeastOf (λ v. IsTrue (has_var (take (i + 1) spans) v && g v)) (lesser_of a (Some s.var))
   flagged_next g a h k = least_more (λ v. IsTrue (has_var (take i spans) v && g v)) (λ v. IsTrue (has_var (take (i + 1) spans) v && g v)) a s.var h
-      (λ w x. and_both (has_var (take (i + 1) spans) w) (g w) (var_more w ∙ or_left (has_var (take i spans) w) (s.var == w) (and_left (has_var (take i spans) w) (g w) x)) (and_right (has_var (take i spans) w) (g w) x))
-      (and_both (has_var (take (i + 1) spans) s.var) (g s.var) (var_more s.var ∙ or_right (has_var (take i spans) s.var) (s.var == s.var) (eq-eqb s.var s.var refl)) k)
+      (λ w x. and_both (has_var (take (i + 1) spans) w) (g w) (var_more w
+      ∙ or_left (has_var (take i spans) w) (s.var == w) (and_left (has_var (take i spans) w) (g w) x)) (and_right (has_var (take i spans) w) (g w) x))
+      (and_both (has_var (take (i + 1) spans) s.var) (g s.var) (var_more s.var
+      ∙ or_right (has_var (take i spans) s.var) (s.var == s.var) (eq-eqb s.var s.var refl)) k)
       (λ w x. elim (either_of (has_var (take i spans) w) (s.var == w) (sym (var_more w) ∙ and_left (has_var (take (i + 1) spans) w) (g w) x)) [
         | inl e ↦ inl (and_both (has_var (take i spans) w) (g w) e (and_right (has_var (take (i + 1) spans) w) (g w) x))
         | inr e ↦ inr (sym (eqb-true s.var w e))
@@ -91,14 +95,16 @@ module _ (spans : List Span) (i : ℕ) (d : Span) (lt : i < length spans) where
   pub flagged_pass : (g : ℕ → Bool) (a : Option ℕ) → IsLeastOf (λ v. IsTrue (has_var (take i spans) v && g v)) a → g s.var ≡ false
       → IsLeastOf (λ v. IsTrue (has_var (take (i + 1) spans) v && g v)) a
   flagged_pass g a h k = least_same (λ v. IsTrue (has_var (take i spans) v && g v)) (λ v. IsTrue (has_var (take (i + 1) spans) v && g v)) a
-      (λ w x. and_both (has_var (take (i + 1) spans) w) (g w) (var_more w ∙ or_left (has_var (take i spans) w) (s.var == w) (and_left (has_var (take i spans) w) (g w) x)) (and_right (has_var (take i spans) w) (g w) x))
+      (λ w x. and_both (has_var (take (i + 1) spans) w) (g w) (var_more w
+      ∙ or_left (has_var (take i spans) w) (s.var == w) (and_left (has_var (take i spans) w) (g w) x)) (and_right (has_var (take i spans) w) (g w) x))
       (λ w x. elim (either_of (has_var (take i spans) w) (s.var == w) (sym (var_more w) ∙ and_left (has_var (take (i + 1) spans) w) (g w) x)) [
         | inl e ↦ and_both (has_var (take i spans) w) (g w) e (and_right (has_var (take (i + 1) spans) w) (g w) x)
         | inr e ↦ absurd (cc (k, ap g (eqb-true s.var w e), and_right (has_var (take (i + 1) spans) w) (g w) x))
       ])
       h
 
-  pub var_next : (a : Option ℕ) → IsLeastOf (λ v. IsTrue (has_var (take i spans) v)) a → IsLeastOf (λ v. IsTrue (has_var (take (i + 1) spans) v)) (lesser_of a (Some s.var))
+  pub var_next : (a : Option ℕ) → IsLeastOf (λ v. IsTrue (has_var (take i spans) v)) a
+      → IsLeastOf (λ v. IsTrue (has_var (take (i + 1) spans) v)) (lesser_of a (Some s.var))
   var_next a h = least_more (λ v. IsTrue (has_var (take i spans) v)) (λ v. IsTrue (has_var (take (i + 1) spans) v)) a s.var h
       (λ w x. var_more w ∙ or_left (has_var (take i spans) w) (s.var == w) x)
       (var_more s.var ∙ or_right (has_var (take i spans) s.var) (s.var == s.var) (eq-eqb s.var s.var refl))
@@ -106,7 +112,8 @@ module _ (spans : List Span) (i : ℕ) (d : Span) (lt : i < length spans) where
 
 -- ---- flags that are set and set back
 
-pub marked_flag : (f0 f1 : List Bool) (h : ℕ → Bool) → AreClear f0 → ((v : ℕ) → get_or f1 v false ≡ (if h v then true else get_or f0 v false)) → (v : ℕ) → get_or f1 v false ≡ h v
+pub marked_flag : (f0 f1 : List Bool) (h : ℕ → Bool) → AreClear f0 → ((v : ℕ) → get_or f1 v false ≡ (if h v then true else get_or f0 v false)) → (v : ℕ)
+    → get_or f1 v false ≡ h v
 marked_flag f0 f1 h c e v = e v ∙ ap (λ r. if h v then true else r) (c v) ∙ itself (h v)
   where
     itself : (b : Bool) → (if b then true else false) ≡ b
@@ -160,4 +167,5 @@ none_mixed d p v le x = absurd (cc (ap (λ (process : Process). list_any (list_a
 -- ---- a whole slice that was written goes back into its vector
 
 pub back_is : {X : Type 0} (items new : List X) (n : ℕ) → length new ≡ length items → n ≡ length items → take n (new ++ drop (length new) items) ≡ new
-back_is items new n e k = ap (λ z. take n (new ++ z)) (drop_all (length new) items (omega (arith, e))) ∙ ap (λ z. take n z) (append-nil new) ∙ take_all n new (omega (arith, e, k))
+back_is items new n e k = ap (λ z. take n (new ++ z)) (drop_all (length new) items (omega (arith, e))) ∙ ap (λ z. take n z) (append-nil new)
+    ∙ take_all n new (omega (arith, e, k))

@@ -1,5 +1,6 @@
 -- Variables that a clocked process writes at once and that others see.
-use Rattle.std.proofs.Common.{◌≡◌, ◌≢◌, ◌∙◌, sym, ap, subst, refl, ℕ, ◌+◌, ◌<◌, ◌≤◌, ◌==◌, ◌⊎◌, inl, inr, Bool, true, false, not, ◌||◌, ◌&&◌, if◌then◌else◌, Option, Some, None, List, [], ◌∷◌, length, get_or, take, eqb-true, eq-eqb, arith}
+use Rattle.std.proofs.Common.{◌≡◌, ◌≢◌, ◌∙◌, sym, ap, subst, refl, ℕ, ◌+◌, ◌<◌, ◌≤◌, ◌==◌, ◌⊎◌, inl, inr, Bool, true, false, not, ◌||◌, ◌&&◌, if◌then◌else◌}
+use Rattle.std.proofs.Common.{Option, Some, None, List, [], ◌∷◌, length, get_or, take, eqb-true, eq-eqb, arith}
 use Rattle.std.specs.Prelude.{IsTrue, All, Contains}
 use Rattle.std.specs.List.{list_any}
 use Rattle.std.proofs.lemmas.Bool.{cases_lt}
@@ -58,7 +59,8 @@ output_is outputs v c = list_any_at (λ o. o == v) outputs c.0 v c.1 (eq-eqb (ge
 
 -- ---- the condition
 
-module _ (d : Design) (watches : List Watch) (outputs : List Bool) (are : AreWatched d (length d.processes) watches) (flags : (v : ℕ) → get_or outputs v false ≡ list_any (λ o. o == v) d.outputs)
+module _ (d : Design) (watches : List Watch) (outputs : List Bool) (are : AreWatched d (length d.processes) watches) (flags : (v : ℕ)
+    → get_or outputs v false ≡ list_any (λ o. o == v) d.outputs)
     (p : ℕ) (u : Uses) (uses : AreUsesOf d p u) where
   stands : (v : ℕ) → has_var u.sets v ≡ true → v < length d.vars
   stands v h =
@@ -109,13 +111,15 @@ module _ (d : Design) (watches : List Watch) (outputs : List Bool) (are : AreWat
 
 -- ---- all processes
 
-pub none_watched : (d : Design) (watches : List Watch) → length watches ≡ length d.vars → ((v : ℕ) → get_or watches v no_watch ≡ no_watch) → AreWatched d 0 watches
+pub none_watched : (d : Design) (watches : List Watch) → length watches ≡ length d.vars → ((v : ℕ) → get_or watches v no_watch ≡ no_watch)
+    → AreWatched d 0 watches
 none_watched d watches n h = record {
   many = n;
   each = λ v lt. subst (IsWatch (IsToucherBefore d 0 v)) (sym (h v)) (λ q t. absurd (omega (arith, t.before)));
 }
 
-pub next_watched : (d : Design) (p : ℕ) (u : Uses) (old new : List Watch) → AreUsesOf d p u → is_initial (kind_of d p) ≡ false → AreWatched d p old → HasWatched old new u p
+pub next_watched : (d : Design) (p : ℕ) (u : Uses) (old new : List Watch) → AreUsesOf d p u → is_initial (kind_of d p) ≡ false → AreWatched d p old
+    → HasWatched old new u p
     → AreWatched d (p + 1) new
 next_watched d p u old new uses k h w = record {
   many = w.many ∙ h.many;

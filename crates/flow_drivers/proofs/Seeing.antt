@@ -1,5 +1,7 @@
 -- Which processes see a variable, process by process.
-use Rattle.std.proofs.Common.{◌≡◌, ◌≢◌, ◌∙◌, sym, ap, ap₂, subst, refl, ℕ, ◌+◌, ◌<◌, ◌≤◌, ◌==◌, ◌⊎◌, inl, inr, Bool, true, false, not, ◌||◌, ◌&&◌, if◌then◌else◌, Option, Some, None, List, [], ◌∷◌, zero, suc, length, get_or, set, take, eqb-true, eq-eqb, get_or-set_other, get_or-set_same, arith}
+use Rattle.std.proofs.Common.{◌≡◌, ◌≢◌, ◌∙◌, sym, ap, ap₂, subst, refl, ℕ, ◌+◌, ◌<◌, ◌≤◌, ◌==◌, ◌⊎◌, inl, inr, Bool, true, false, not, ◌||◌, ◌&&◌}
+use Rattle.std.proofs.Common.{if◌then◌else◌, Option, Some, None, List, [], ◌∷◌, zero, suc, length, get_or, set, take, eqb-true, eq-eqb, get_or-set_other}
+use Rattle.std.proofs.Common.{get_or-set_same, arith}
 use Rattle.std.specs.Prelude.{IsTrue, All, Contains, nat_lt}
 use Rattle.std.specs.List.{list_any}
 use Rattle.std.proofs.lemmas.Bool.{cases_eq, cases_lt, ltb-true, lt-ltb}
@@ -26,7 +28,8 @@ use Rattle.flow_least.specs.Least.{IsLeastOf, lesser_of}
 use Rattle.flow_least.proofs.Lessers.{least_same}
 use Rattle.flow_drivers.specs.declared.watch.Watch.{Watch}
 use Rattle.flow_drivers.specs.declared.watch.Watch.TheVariants as watch
-use Rattle.flow_drivers.specs.Watching.{no_watch, with_process, seen_by_other, has_read_var, touches, HasWatched, is_seen, IsSeenIn, IsToucher, IsWatch, IsToucherBefore, AreWatched}
+use Rattle.flow_drivers.specs.Watching.{no_watch, with_process, seen_by_other, has_read_var, touches, HasWatched, is_seen, IsSeenIn, IsToucher, IsWatch}
+use Rattle.flow_drivers.specs.Watching.{IsToucherBefore, AreWatched}
 use Rattle.flow_drivers.proofs.Flagging.{either_of, or_left, or_right, and_left, and_right, and_both}
 
 -- ---- one that passes a test
@@ -57,7 +60,8 @@ twice (watch.One q) p = go (q == p) refl
 twice watch.Several p = refl
 
 -- one variable was noted
-pub watch_more : (watches : List Watch) (w v p : ℕ) (h : Bool) (o : Watch) → w < length watches → get_or watches v no_watch ≡ (if h then with_process o p else o)
+pub watch_more : (watches : List Watch) (w v p : ℕ) (h : Bool) (o : Watch) → w < length watches
+    → get_or watches v no_watch ≡ (if h then with_process o p else o)
     → get_or (set watches w (with_process (get_or watches w no_watch) p)) v no_watch ≡ (if h || (w == v) then with_process o p else o)
 watch_more watches w v p h o inside e = go (w == v) refl
   where
@@ -70,7 +74,8 @@ watch_more watches w v p h o inside e = go (w == v) refl
     other false = refl
 
     go : (b : Bool) → (w == v) ≡ b → get_or (set watches w (with_process (get_or watches w no_watch) p)) v no_watch ≡ (if h || b then with_process o p else o)
-    go true k = subst (λ u. get_or (set watches w (with_process (get_or watches w no_watch) p)) u no_watch ≡ with_process (get_or watches w no_watch) p) (eqb-true w v k)
+    go true k = subst (λ u. get_or (set watches w (with_process (get_or watches w no_watch) p)) u no_watch
+        ≡ with_process (get_or watches w no_watch) p) (eqb-true w v k)
         (get_or-set_same watches w (with_process (get_or watches w no_watch) p) no_watch inside)
         ∙ ap (λ u. with_process (get_or watches u no_watch) p) (eqb-true w v k) ∙ ap (λ z. with_process z p) e ∙ noted h
     go false k = get_or-set_other watches w v (with_process (get_or watches w no_watch) p) no_watch (λ q. absurd (cc (k, eq-eqb w v (sym q)))) ∙ e ∙ other h
@@ -87,7 +92,8 @@ module _ (spans : List Span) (i : ℕ) (d : Span) (lt : i < length spans) (p : �
       ∙ ap (λ b. if b then with_process (get_or old v no_watch) p else get_or old v no_watch) (sym (list_any_more (λ (t : Span). t.var == v) spans i d lt))
 
   read_more : (v : ℕ) (b : Bool) → nat_lt s.place s.place_end ≡ b → has_read_var (take (i + 1) spans) v ≡ (has_read_var (take i spans) v || ((s.var == v) && b))
-  read_more v b e = list_any_more (λ (t : Span). t.var == v && nat_lt t.place t.place_end) spans i d lt ∙ ap (λ r. has_read_var (take i spans) v || ((s.var == v) && r)) e
+  read_more v b e = list_any_more (λ (t : Span). t.var == v && nat_lt t.place t.place_end) spans i d lt
+      ∙ ap (λ r. has_read_var (take i spans) v || ((s.var == v) && r)) e
 
   pub read_next : s.var < length watches → s.place < s.place_end
       → ((v : ℕ) → get_or watches v no_watch ≡ (if has_read_var (take i spans) v then with_process (get_or old v no_watch) p else get_or old v no_watch))
@@ -117,11 +123,14 @@ module _ (spans : List Span) (i : ℕ) (d : Span) (lt : i < length spans) (p : �
       empty false e = e
 
 -- reads and writes of a process one after the other
-pub all_noted : (o a b c : Watch) (p : ℕ) (x y z : Bool) → a ≡ (if x then with_process o p else o) → b ≡ (if y then with_process a p else a) → c ≡ (if z then with_process b p else b)
+pub all_noted : (o a b c : Watch) (p : ℕ) (x y z : Bool) → a ≡ (if x then with_process o p else o) → b ≡ (if y then with_process a p else a)
+    → c ≡ (if z then with_process b p else b)
     → c ≡ (if (x || y) || z then with_process o p else o)
-all_noted o a b c p x y z e f g = g ∙ ap (λ b. if z then with_process b p else b) (f ∙ ap (λ a. if y then with_process a p else a) e ∙ join x y) ∙ join (x || y) z
+all_noted o a b c p x y z e f g = g ∙ ap (λ b. if z then with_process b p else b) (f ∙ ap (λ a. if y then with_process a p else a) e ∙ join x y)
+    ∙ join (x || y) z
   where
-    join : (x y : Bool) → (if y then with_process (if x then with_process o p else o) p else (if x then with_process o p else o)) ≡ (if x || y then with_process o p else o)
+    join : (x y : Bool) → (if y then with_process (if x then with_process o p else o) p else (if x then with_process o p else o))
+        ≡ (if x || y then with_process o p else o)
     join true true = twice o p
     join true false = refl
     join false true = refl
@@ -170,11 +179,13 @@ module _ (d : Design) (v : ℕ) (here : v < length d.vars) where
       some_at (λ (t : Span). t.var == v && nat_lt t.place t.place_end) u.reads no_span h in
       let s : Span = get_or u.reads f.0 no_span in
       let i : IsSpanOf d.vars (get_or u.reads f.0 no_span) = uses.reads_in f.0 no_span f.1 in
-      let e : (get_or u.reads f.0 no_span).var ≡ v = eqb-true (get_or u.reads f.0 no_span).var v (and_left ((get_or u.reads f.0 no_span).var == v) (nat_lt (get_or u.reads f.0 no_span).place (get_or u.reads f.0 no_span).place_end) f.2) in
+      let e : (get_or u.reads f.0 no_span).var
+      ≡ v = eqb-true (get_or u.reads f.0 no_span).var v (and_left ((get_or u.reads f.0 no_span).var == v) (nat_lt (get_or u.reads f.0 no_span).place (get_or u.reads f.0 no_span).place_end) f.2) in
       let l : (get_or u.reads f.0 no_span).place < (get_or u.reads f.0 no_span).place_end = ltb-true (get_or u.reads f.0 no_span).place (get_or u.reads f.0 no_span).place_end (and_right ((get_or u.reads f.0 no_span).var == v) (nat_lt (get_or u.reads f.0 no_span).place (get_or u.reads f.0 no_span).place_end) f.2) in
       first p u uses (get_or u.reads f.0 no_span) f.0 no_span f.1 refl i e l
     where
-      first : (p : ℕ) (u : Uses) → AreUsesOf d p u → (s : Span) (k : ℕ) (t : Span) → k < length u.reads → s ≡ get_or u.reads k t → IsSpanOf d.vars s → s.var ≡ v → s.place < s.place_end
+      first : (p : ℕ) (u : Uses) → AreUsesOf d p u → (s : Span) (k : ℕ) (t : Span) → k < length u.reads → s ≡ get_or u.reads k t → IsSpanOf d.vars s
+          → s.var ≡ v → s.place < s.place_end
           → (b : Bit) × IsBitOf d b × (b.var ≡ v) × IsTrue (reads_bit d p b)
       first p u uses s k t lt is i e l =
           let b : Bit = record { var = s.var; word = s.word; place = s.place } in
@@ -183,7 +194,8 @@ module _ (d : Design) (v : ℕ) (here : v < length d.vars) where
             of_word = omega (arith, i.some_word, i.of_words);
             in_width = omega (arith, l, i.in_width);
           } in
-          let inside : is_in s (record { var = s.var; word = s.word; place = s.place }) ≡ true = is_within s s.word s.place (omega arith) i.some_word (omega arith) l in
+          let inside : is_in s (record { var = s.var; word = s.word; place = s.place })
+          ≡ true = is_within s s.word s.place (omega arith) i.some_word (omega arith) l in
           let has : has_bit u.reads (record { var = s.var; word = s.word; place = s.place }) ≡ true =
           list_any_at (λ (x : Span). is_in x (record { var = s.var; word = s.word; place = s.place })) u.reads k t lt (subst (λ (x : Span). is_in x (record { var = s.var; word = s.word; place = s.place }) ≡ true) is inside) in
           (record { var = s.var; word = s.word; place = s.place }, bit, e, sym (uses.reads (record { var = s.var; word = s.word; place = s.place }) bit) ∙ has)
@@ -191,11 +203,13 @@ module _ (d : Design) (v : ℕ) (here : v < length d.vars) where
   read_var : (p : ℕ) (u : Uses) → AreUsesOf d p u → (b : Bit) → IsBitOf d b → b.var ≡ v → IsTrue (reads_bit d p b) → has_read_var u.reads v ≡ true
   read_var p u uses b i e r =
       let no_span : Span = record { var = 0; word = 0; word_end = 0; place = 0; place_end = 0 } in
-      let f : (k : ℕ) × (k < length u.reads) × (is_in (get_or u.reads k no_span) b ≡ true) = some_at (λ (t : Span). is_in t b) u.reads no_span (uses.reads b i ∙ r) in
+      let f : (k : ℕ) × (k < length u.reads) × (is_in (get_or u.reads k no_span) b
+      ≡ true) = some_at (λ (t : Span). is_in t b) u.reads no_span (uses.reads b i ∙ r) in
       let w : Within (get_or u.reads f.0 no_span) b = within (get_or u.reads f.0 no_span) b f.2 in
       list_any_at (λ (t : Span). t.var == v && nat_lt t.place t.place_end) u.reads f.0 no_span f.1
       (and_both ((get_or u.reads f.0 no_span).var == v) (nat_lt (get_or u.reads f.0 no_span).place (get_or u.reads f.0 no_span).place_end)
-      (eq-eqb (get_or u.reads f.0 no_span).var v (w.var ∙ e)) (lt-ltb (get_or u.reads f.0 no_span).place (get_or u.reads f.0 no_span).place_end (omega (arith, w.place, w.place_end))))
+      (eq-eqb (get_or u.reads f.0 no_span).var v (w.var
+      ∙ e)) (lt-ltb (get_or u.reads f.0 no_span).place (get_or u.reads f.0 no_span).place_end (omega (arith, w.place, w.place_end))))
 
   touched_by : (p : ℕ) (u : Uses) → AreUsesOf d p u → is_initial (kind_of d p) ≡ false → touches u v ≡ true → IsToucher d v p
   touched_by p u uses k h = record {
@@ -213,7 +227,8 @@ module _ (d : Design) (v : ℕ) (here : v < length d.vars) where
   touches_if p u uses t = elim t.touched [
     | inl x ↦ or_left (has_read_var u.reads v || has_var u.sets v) (has_var u.defers v) (or_left (has_read_var u.reads v) (has_var u.sets v) (read_var p u uses x.0 x.1 x.2 x.3))
     | inr x ↦ elim (either_of (sets_var d p v) (defers_var d p v) x) [
-      | inl s ↦ or_left (has_read_var u.reads v || has_var u.sets v) (has_var u.defers v) (or_right (has_read_var u.reads v) (has_var u.sets v) (uses.sets v ∙ s))
+      | inl s ↦ or_left (has_read_var u.reads v || has_var u.sets v) (has_var u.defers v) (or_right (has_read_var u.reads v) (has_var u.sets v) (uses.sets v
+          ∙ s))
       | inr s ↦ or_right (has_read_var u.reads v || has_var u.sets v) (has_var u.defers v) (uses.defers v ∙ s)
     ]
   ]

@@ -1,5 +1,6 @@
 -- Bits that two processes drive.
-use Rattle.std.proofs.Common.{◌≡◌, ◌∙◌, sym, ap, subst, refl, ℕ, ◌+◌, ◌<◌, ◌≤◌, ◌⊎◌, inl, inr, Bool, true, false, not, ◌||◌, ◌&&◌, Option, List, [], ◌∷◌, zero, suc, length, get_or, take, arith}
+use Rattle.std.proofs.Common.{◌≡◌, ◌∙◌, sym, ap, subst, refl, ℕ, ◌+◌, ◌<◌, ◌≤◌, ◌⊎◌, inl, inr, Bool, true, false, not, ◌||◌, ◌&&◌, Option, List, [], ◌∷◌, zero}
+use Rattle.std.proofs.Common.{suc, length, get_or, take, arith}
 use Rattle.std.specs.Prelude.{IsTrue, All, Any}
 use Rattle.std.specs.List.{list_any}
 use Rattle.std.proofs.lemmas.List.{get_or_read, get_or_past}
@@ -138,7 +139,8 @@ module _ (d : Design) (p : ℕ) (u : Uses) (lt : p < length d.processes) (uses :
   shared_in : (m : MarkSet) → IsBefore d p (asked_kinds (kind_of d p)) m → (v : ℕ) → HasMetEither m u v → HasTwoDrivers d p v
   shared_in m h v x =
       let i : IsBitOf d.vars x.common = bit_of_vars d.vars m.slots h.slots x.common x.here in
-      let f = found (λ (process : Process). asked_kinds (kind_of d p) process.kind && drives_of process.body x.common) d.processes p (sym (h.bits x.common i) ∙ x.in_set) in
+      let f = found (λ (process : Process). asked_kinds (kind_of d p) process.kind && drives_of process.body x.common) d.processes p (sym (h.bits x.common i)
+      ∙ x.in_set) in
       record {
         other = f.0;
         less = f.1;
@@ -157,10 +159,12 @@ module _ (d : Design) (p : ℕ) (u : Uses) (lt : p < length d.processes) (uses :
     here = bit_in d.vars m.slots h.slots x.shared x.here;
     within = uses.drives x.shared x.here ∙ x.driven;
     in_set = h.bits x.shared x.here ∙ held (λ (process : Process). asked_kinds (kind_of d p) process.kind && drives_of process.body x.shared) d.processes p x.other x.less (omega (arith, lt, x.less))
-        (and_from (asked_kinds (kind_of d p) (kind_of d x.other)) (drives d x.other x.shared) (sym (clashes (kind_of d p) (kind_of d x.other)) ∙ x.kinds) x.by_other);
+        (and_from (asked_kinds (kind_of d p) (kind_of d x.other)) (drives d x.other x.shared) (sym (clashes (kind_of d p) (kind_of d x.other))
+        ∙ x.kinds) x.by_other);
   }
 
-  pub shared_is : (x : Driven) (k : ProcessKind) → k ≡ kind_of d p → AreBefore d p x → (a : Option ℕ) → IsLeastOf (HasMetEither (asked_of k x) u) a → IsLeastOf (HasTwoDrivers d p) a
+  pub shared_is : (x : Driven) (k : ProcessKind) → k ≡ kind_of d p → AreBefore d p x → (a : Option ℕ) → IsLeastOf (HasMetEither (asked_of k x) u) a
+      → IsLeastOf (HasTwoDrivers d p) a
   shared_is x k e h a = subst (λ k. IsLeastOf (HasMetEither (asked_of k x) u) a → IsLeastOf (HasTwoDrivers d p) a) (sym e)
       (least_same (HasMetEither (asked_of (kind_of d p) x) u) (HasTwoDrivers d p) a
       (shared_in (asked_of (kind_of d p) x) (asked_before (kind_of d p) x h)) (shared_back (asked_of (kind_of d p) x) (asked_before (kind_of d p) x h)))

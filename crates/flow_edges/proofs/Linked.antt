@@ -25,7 +25,7 @@ use Rattle.flow_edges.specs.Stretches.{AreNumbered, IsAmong, bits_of, columns_of
 use Rattle.flow_edges.specs.Owning.{AreOwners, IsOfWord, Settles, slots_of}
 use Rattle.flow_edges.specs.Linking.{DrivesIn, IsGraphOf, LeadsTo, MayLead, OfRows, OfSpan, OfSpans}
 use Rattle.flow_edges.proofs.Growing.{adds_none, adds_as, adds_more}
-use Rattle.flow_edges.proofs.Layouts.{bit_from, span_in}
+use Rattle.flow_spans.proofs.OfVars.{bit_from, span_in}
 use Rattle.flow_edges.proofs.Numbers.{IsInside, among_bits, among_columns, bit_stretch, bit_with, column_stretch, column_with}
 use Rattle.flow_edges.proofs.Owned.{HasIt, one_has, spans_have, settles_below}
 use Rattle.flow_edges.proofs.Noting.{no_span, one_more, one_kept, one_there}

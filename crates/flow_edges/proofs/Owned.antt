@@ -25,7 +25,7 @@ use Rattle.flow_edges.specs.declared.owners.Owners.{Owners}
 use Rattle.flow_edges.specs.Adding.{Adds}
 use Rattle.flow_edges.specs.Stretches.{AreNumbered, IsAmong, columns_of, column_number}
 use Rattle.flow_edges.specs.Owning.{AreOwners, IsBlank, IsNamed, IsOfWord, Notes, Settles, slots_of}
-use Rattle.flow_edges.proofs.Layouts.{IsSlotOf, slot_is, slots_many, bit_in, span_in, spans_in}
+use Rattle.flow_spans.proofs.OfVars.{IsSlotOf, slot_is, slots_many, bit_in, span_in, spans_in}
 use Rattle.flow_edges.proofs.Noting.{InBits, InWhole, InColumns, table_kept, notes_none, notes_more}
 use Rattle.flow_edges.proofs.Numbers.{IsColumnOf, bit_among, among_bits, column_among, among_columns}
 

@@ -3,7 +3,6 @@
 #![tactic(auto)]
 
 mod answer;
-mod layout;
 mod links;
 mod lists;
 mod owners;

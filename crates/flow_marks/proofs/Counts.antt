@@ -61,3 +61,15 @@ marked_word f (suc n) h = go (f n) refl h (marked_word f n)
           arith,
       r.2,
     )
+
+-- where all are in the set, the count is that of all, and the other way round
+pub marked_all : (f : ℕ → Bool) (n : ℕ) → ((w : ℕ) → w < n → f w ≡ true) → marked f n ≡ n
+marked_all f zero h = refl
+marked_all f (suc n) h = rw (h n (omega arith), marked_all f n (λ w l. h w (omega arith))) (omega arith)
+
+pub all_marked : (f : ℕ → Bool) (n w : ℕ) → marked f n ≡ n → w < n → f w ≡ true
+all_marked f n w e l = go (f w) refl
+  where
+    go : (b : Bool) → f w ≡ b → f w ≡ true
+    go true h = h
+    go false h = absurd (omega (arith, e, marked_less f n w l h))

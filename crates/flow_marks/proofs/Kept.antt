@@ -1,5 +1,6 @@
 -- What the code reads and writes of a set.
-use Rattle.std.proofs.Common.{◌≡◌, ◌≢◌, ℕ, ◌+◌, ◌-◌, ◌*◌, ◌<◌, ◌≤◌, Bool, true, false, not, ◌&&◌, ◌||◌, List, length, get_or, set, refl, sym, ap, ◌∙◌, inl, inr, arith}
+use Rattle.std.proofs.Common.{◌≡◌, ◌≢◌, ℕ, ◌+◌, ◌-◌, ◌*◌, ◌<◌, ◌≤◌, Bool, true, false, not, ◌&&◌, ◌||◌, List, length, get_or, set, refl, sym, ap, ◌∙◌, inl, inr}
+use Rattle.std.proofs.Common.{arith}
 use Rattle.std.proofs.lemmas.List.{get_or-set_same, get_or-set_other, length-set, get_or_default, set-get_or}
 use Rattle.std.proofs.lemmas.Bool.{cases_eq}
 use Rattle.std.proofs.lemmas.Bool.Decides.{nat_tests}
@@ -30,7 +31,7 @@ two_bits : (a b : Bit) → a.var ≡ b.var → a.word ≡ b.word → a.place ≡
 two_bits a b e f g h = grind (arith, nat_tests)
 
 module _ (slots : List Slot) (bits : List Bool) (counts : List ℕ) (k : IsKept slots bits counts) where
-  slot_read : (v : ℕ) (s : Slot) → v < length slots → s ≡ get_or slots v s → s ≡ slot_of slots v
+  pub slot_read : (v : ℕ) (s : Slot) → v < length slots → s ≡ get_or slots v s → s ≡ slot_of slots v
   slot_read v s h e = e ∙ get_or_default slots v s no_slot h
 
   pub number_read : (v w c : ℕ) (s : Slot) → IsIn slots (bit_of v w c) → s ≡ get_or slots v s → s.bit + (w * s.width + c) ≡ number slots (bit_of v w c)

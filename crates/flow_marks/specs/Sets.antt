@@ -38,6 +38,10 @@ pub record IsColumn (slots : List Slot) (v c : ℕ) : Type 0 where
 abbrev pub HasInColumn : MarkSet → ℕ → ℕ → Type 0
 HasInColumn m v c = (w : ℕ) × (w < (slot_of m.slots v).words) × (has m (record { var = v; word = w; place = c }) ≡ true)
 
+-- the set has the bits at that place in all words
+abbrev pub HasColumn : MarkSet → ℕ → ℕ → Type 0
+HasColumn m v c = (w : ℕ) → w < (slot_of m.slots v).words → has m (record { var = v; word = w; place = c }) ≡ true
+
 -- a span has a bit of the set
 pub record Meets (m : MarkSet) (s : Span) : Type 0 where
   pub common : Bit

@@ -48,12 +48,15 @@ is_same a b = a.var == b.var && a.word == b.word && a.place == b.place
 abbrev pub is_in : Span → Bit → Bool
 is_in s b = s.var == b.var && nat_le s.word b.word && nat_lt b.word s.word_end && nat_le s.place b.place && nat_lt b.place s.place_end
 
--- the part of a span in one word, up to a place; the part in the words up to one
+-- the part of a span in one word, up to a place; the part at one place, up to a word; the part at the places up to one
 abbrev pub row : Span → ℕ → ℕ → Span
 row s w p = record s { word = w; word_end = w + 1; place_end = p }
 
-abbrev pub rows : Span → ℕ → Span
-rows s w = record s { word_end = w }
+abbrev pub column : Span → ℕ → ℕ → Span
+column s p w = record s { word_end = w; place = p; place_end = p + 1 }
+
+abbrev pub columns : Span → ℕ → Span
+columns s p = record s { place_end = p }
 
 -- a span of a variable lies inside it
 pub record IsSpan (slots : List Slot) (s : Span) : Type 0 where

@@ -7,6 +7,6 @@ mod span;
 mod trail;
 
 pub use marks::Marks;
-pub use slot::Slot;
+pub use slot::{Layout, Slot, laid_out};
 pub use span::Span;
-pub use trail::{Spot, take, take_common, take_span, undo};
+pub use trail::{Spot, take, take_span, undo};

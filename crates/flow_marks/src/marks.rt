@@ -1,7 +1,7 @@
 ghost use Rattle.std.specs.Prelude.{◌≡◌, ◌+◌, ◌<◌, ◌≤◌, ◌||◌, ◌&&◌, not, true, false, IfOk, IsTrue, ◌↔◌};
 ghost use Rattle.circuit_run.specs.States.{Bit};
-ghost use Rattle.flow_marks.specs.Slots.{AreFew, IsIn, IsSpan, IsOneOrAll, is_in, is_same, row, slot_of, slots_from};
-ghost use Rattle.flow_marks.specs.Sets.{has, IsColumn, HasInColumn, Meets};
+ghost use Rattle.flow_marks.specs.Slots.{AreFew, IsIn, IsSpan, IsOneOrAll, column, is_in, is_same, slot_of, slots_from};
+ghost use Rattle.flow_marks.specs.Sets.{has, IsColumn, HasColumn, HasInColumn, Meets};
 
 use crate::slot::{Layout, Slot, laid_out};
 use crate::span::Span;
@@ -94,14 +94,27 @@ impl Marks {
         self.counts[slot.column + place as usize] > 0
     }
 
-    /// Puts the bits of one word of a span into the set.
-    fn insert_word(&mut self, span: Span, word: u32)
-        requires span { IsSpan self.old.slots span }
-        requires word { word < span.word_end }
-        ensures slots { self.new.slots ≡ self.old.slots }
-        ensures bits { (b : Bit) → IsIn self.old.slots b → has self.new b ≡ (is_in (row span word span.place_end) b || has self.old b) }
+    /// Whether the bits at this place are in the set in all words.
+    fn is_full(&self, var: u32, place: u8) -> bool
+        requires { IsColumn self.now.slots var place }
+        ensures { IsTrue result ↔ HasColumn self.now var place }
     {
-        for place in span.place..span.place_end {
+        let slot = self.slots[var as usize];
+        self.counts[slot.column + place as usize] == slot.words
+    }
+
+    /// Puts the bits of a span at one of its places into the set.
+    fn insert_column(&mut self, span: Span, place: u8)
+        requires span { IsSpan self.old.slots span }
+        requires place { place < span.place_end }
+        ensures slots { self.new.slots ≡ self.old.slots }
+        ensures bits { (b : Bit) → IsIn self.old.slots b → has self.new b ≡ (is_in (column span place span.word_end) b || has self.old b) }
+    {
+        // A memory may be written at many computed positions: what is full isn't filled again.
+        if self.is_full(span.var, place) {
+            return;
+        }
+        for word in span.word..span.word_end {
             self.add(span.var, word, place);
         }
     }
@@ -112,8 +125,8 @@ impl Marks {
         ensures slots { self.new.slots ≡ self.old.slots }
         ensures bits { (b : Bit) → IsIn self.old.slots b → has self.new b ≡ (is_in span b || has self.old b) }
     {
-        for word in span.word..span.word_end {
-            self.insert_word(span, word);
+        for place in span.place..span.place_end {
+            self.insert_column(span, place);
         }
     }
 

@@ -15,14 +15,14 @@ pub struct Slot {
 }
 
 /// The slots of variables, one behind the other, and how many bits and columns they have.
-pub(crate) struct Layout {
-    pub(crate) slots: Vec<Slot>,
-    pub(crate) bits: usize,
-    pub(crate) columns: usize,
+pub struct Layout {
+    pub slots: Vec<Slot>,
+    pub bits: usize,
+    pub columns: usize,
 }
 
 /// The layout of variables.
-pub(crate) fn laid_out(alloc: Global, vars: &[Var]) -> Result<Layout, NoMemory>
+pub fn laid_out(alloc: Global, vars: &[Var]) -> Result<Layout, NoMemory>
     requires { AreFew vars.now }
     ensures { IfOk result (λ l. IsLayout vars.now l.slots.items l.bits l.columns) }
 {

@@ -59,22 +59,3 @@ pub fn undo(marks: &mut Marks, trail: &mut Vec<Spot>, from: usize)
         trail.pop();
     }
 }
-
-/// Takes those listed bits that another set has, and keeps those that were in the set on the trail.
-pub fn take_common(
-    marks: &mut Marks,
-    spots: &[Spot],
-    other: &Marks,
-    trail: &mut Vec<Spot>,
-) -> Result<(), NoMemory>
-    requires inside { AreIn marks.old.slots spots.now }
-    requires same { other.now.slots ≡ marks.old.slots }
-    ensures { IfOk result (λ _. Takes marks.old marks.new trail.old.items trail.new.items (λ b. is_listed spots.now b && has other.now b)) }
-{
-    for spot in spots {
-        if other.has(spot.var, spot.word, spot.place) {
-            take(marks, *spot, trail)?;
-        }
-    }
-    Ok(())
-}

@@ -1,11 +1,13 @@
 -- Bits of masks, and bits that differ under a mask.
-use Rattle.std.proofs.Common.{◌≡◌, ◌≢◌, ◌∙◌, sym, ap, refl, ℕ, zero, suc, ◌+◌, ◌-◌, ◌*◌, ◌/◌, ◌%◌, ◌^◌, ◌<◌, ◌≤◌, ◌==◌, ◌&&◌, ◌||◌, arith, inl, inr, Bool, true, false, List, [], ◌∷◌, length, get_or, map, min, bit_and, bit_xor, IsTrue}
+use Rattle.std.proofs.Common.{◌≡◌, ◌≢◌, ◌∙◌, sym, ap, refl, ℕ, zero, suc, ◌+◌, ◌-◌, ◌*◌, ◌/◌, ◌%◌, ◌^◌, ◌<◌, ◌≤◌, ◌==◌, ◌&&◌, ◌||◌, arith, inl, inr, Bool, true}
+use Rattle.std.proofs.Common.{false, List, [], ◌∷◌, length, get_or, map, min, bit_and, bit_xor, IsTrue}
 use Rattle.std.specs.Prelude.{nat_le, nat_lt, All}
 use Rattle.std.specs.Int.{bit_at}
 use Rattle.std.specs.List.{list_any}
 use Rattle.std.proofs.lemmas.Bool.{cases_lt, cases_eq}
 use Rattle.std.proofs.lemmas.Bool.Decides.{nat_tests}
-use Rattle.std.proofs.lemmas.Nat.Bits.{bit_at-zero, bit_at-lt, bit_at_lowest, bit_at-suc, bit_at_mask_above, bit_at_mask_below, bit_at_mask_inside, bit_at_and, bit_at_xor}
+use Rattle.std.proofs.lemmas.Nat.Bits.{bit_at-zero, bit_at-lt, bit_at_lowest, bit_at-suc, bit_at_mask_above, bit_at_mask_below, bit_at_mask_inside, bit_at_and}
+use Rattle.std.proofs.lemmas.Nat.Bits.{bit_at_xor}
 use Rattle.circuit_run.specs.States.{Bit}
 use Rattle.flow_marks.specs.declared.span.Span.{Span}
 use Rattle.flow_marks.specs.Slots.{is_in}
@@ -71,7 +73,8 @@ pub differ_from : (a b m : ℕ) → bit_and (bit_xor a b) m ≢ 0 → Differ a b
 differ_from a b m some =
     let one : (i : ℕ) × (bit_at (bit_and (bit_xor a b) m) i ≡ 1) = some_bit (bit_and (bit_xor a b) m) some in
     let two : (bit_at m one.0 ≡ 1) × (bit_at a one.0 ≢ bit_at b one.0) =
-    both_ones (bit_at a one.0) (bit_at b one.0) (bit_at m one.0) (bit_at-lt a one.0) (bit_at-lt b one.0) (bit_at-lt m one.0) (sym (at_place a b m one.0) ∙ one.1) in
+    both_ones (bit_at a one.0) (bit_at b one.0) (bit_at m one.0) (bit_at-lt a one.0) (bit_at-lt b one.0) (bit_at-lt m one.0) (sym (at_place a b m one.0)
+    ∙ one.1) in
     record { place = one.0; in_mask = two.0; differ = two.1 }
 
 pub differ_to : (a b m i : ℕ) → bit_and (bit_xor a b) m ≡ 0 → bit_at m i ≡ 1 → bit_at a i ≢ bit_at b i → ⊥

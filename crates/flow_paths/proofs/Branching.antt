@@ -1,5 +1,6 @@
 -- Walks over branches that are taken back.
-use Rattle.std.proofs.Common.{◌≡◌, ◌∙◌, sym, ap, ap₂, subst, refl, ℕ, ◌+◌, ◌<◌, ◌≤◌, ◌⊎◌, inl, inr, Bool, true, false, not, ◌||◌, ◌&&◌, Option, Some, None, List, [], ◌∷◌, ◌++◌, length, get_or, take, drop, arith}
+use Rattle.std.proofs.Common.{◌≡◌, ◌∙◌, sym, ap, ap₂, subst, refl, ℕ, ◌+◌, ◌<◌, ◌≤◌, ◌⊎◌, inl, inr, Bool, true, false, not, ◌||◌, ◌&&◌, Option, Some, None}
+use Rattle.std.proofs.Common.{List, [], ◌∷◌, ◌++◌, length, get_or, take, drop, arith}
 use Rattle.std.specs.List.{list_any, list_all}
 use Rattle.std.proofs.lemmas.List.{take-append-le, drop-append-le, take_all, drop_all}
 use Rattle.std.proofs.lemmas.List.Folds.{list_all_more}
@@ -111,7 +112,8 @@ lists_inside vars o m n t s w v e f r x y = (
   subst (λ (z : List Slot). AreIn z s) (x.left_slots ∙ r.left ∙ sym (y.slots ∙ x.slots ∙ r.spare)) y.inside,
 )
 
-pub branch_same : (o n : Walk) (t : List Spot) (w v e f : Bit → Bool) → ((b : Bit) → w b ≡ v b) → ((b : Bit) → e b ≡ f b) → Branches o n t w e → Branches o n t v f
+pub branch_same : (o n : Walk) (t : List Spot) (w v e f : Bit → Bool) → ((b : Bit) → w b ≡ v b) → ((b : Bit) → e b ≡ f b) → Branches o n t w e
+    → Branches o n t v f
 branch_same o n t w v e f h k x = record {
   left_slots = x.left_slots;
   left = x.left;

@@ -67,7 +67,8 @@ module _ (spots : List Spot) (i : ℕ) (lt : i < length spots) where
 
   pub kept_pass : (h : Bit → Bool) (all : List Spot) (b : Bit) → h (spot_bit spot_at) ≡ false → is_listed all b ≡ (is_listed (take i spots) b && h b)
       → is_listed all b ≡ (is_listed (take (i + 1) spots) b && h b)
-  kept_pass h all b e k = k ∙ go (is_listed (take i spots) b) (is_same (spot_bit spot_at) b) (h b) (λ s. same_kind h b s ∙ e) ∙ ap (λ r. r && h b) (sym (listed_more b))
+  kept_pass h all b e k = k ∙ go (is_listed (take i spots) b) (is_same (spot_bit spot_at) b) (h b) (λ s. same_kind h b s ∙ e)
+      ∙ ap (λ r. r && h b) (sym (listed_more b))
     where
       go : (l s x : Bool) → (s ≡ true → x ≡ false) → (l && x) ≡ ((l || s) && x)
       go l true true f = absurd (cc (f refl))
@@ -87,7 +88,8 @@ module _ (spots : List Spot) (i : ℕ) (lt : i < length spots) where
       (takes_more m n o s t u (λ b. is_listed (take i spots) b) (λ b. is_listed (spot_at ∷ []) b) x y)
 
 -- a set that had no bits is filled with one list, asked for the other, and emptied
-pub common_is : (m n o : MarkSet) (one other both : List Spot) → IsEmpty m → n.slots ≡ m.slots → ((b : Bit) → IsIn m.slots b → has n b ≡ (is_listed one b || has m b))
+pub common_is : (m n o : MarkSet) (one other both : List Spot) → IsEmpty m → n.slots ≡ m.slots → ((b : Bit) → IsIn m.slots b
+    → has n b ≡ (is_listed one b || has m b))
     → AreIn n.slots both → ((b : Bit) → is_listed both b ≡ (is_listed other b && has n b))
     → o.slots ≡ n.slots → ((b : Bit) → IsIn n.slots b → has o b ≡ (not (is_listed one b) && has n b)) → IsCommon m o one other both
 common_is m n o one other both e s f i g t k = record {

@@ -1,5 +1,6 @@
 -- Walks one after the other.
-use Rattle.std.proofs.Common.{◌≡◌, ◌∙◌, sym, ap, ap₂, subst, refl, ℕ, ◌+◌, ◌<◌, ◌≤◌, ◌⊎◌, inl, inr, Bool, true, false, not, ◌||◌, ◌&&◌, Option, Some, None, List, [], ◌∷◌, ◌++◌, length, get_or, take, arith}
+use Rattle.std.proofs.Common.{◌≡◌, ◌∙◌, sym, ap, ap₂, subst, refl, ℕ, ◌+◌, ◌<◌, ◌≤◌, ◌⊎◌, inl, inr, Bool, true, false, not, ◌||◌, ◌&&◌, Option, Some, None}
+use Rattle.std.proofs.Common.{List, [], ◌∷◌, ◌++◌, length, get_or, take, arith}
 use Rattle.std.specs.List.{list_any}
 use Rattle.std.proofs.lemmas.List.{take_more}
 use Rattle.std.proofs.lemmas.List.Folds.{list_any_more}
@@ -96,7 +97,8 @@ passes_same o n w v e f h k x = record {
   slots = x.slots;
   empty = x.empty;
   reads = joined_same o.early n.early (IsUnwritten o.left e) (IsUnwritten o.left f)
-      (unwritten_by o.left o.left e f refl (λ b i l. l) (λ b i l. sym (k b i) ∙ l)) (unwritten_by o.left o.left f e refl (λ b i l. l) (λ b i l. k b i ∙ l)) x.reads;
+      (unwritten_by o.left o.left e f refl (λ b i l. l) (λ b i l. sym (k b i) ∙ l)) (unwritten_by o.left o.left f e refl (λ b i l. l) (λ b i l. k b i
+      ∙ l)) x.reads;
 }
 
 pub passes_none : (o : Walk) (w e : Bit → Bool) → IsEmpty o.spare → ((b : Bit) → w b ≡ false) → ((b : Bit) → e b ≡ false) → Passes o o w e
@@ -150,7 +152,8 @@ reads_then o m n e w f x y = passes_both o m n (λ b. false) w e f x y
 
 -- ---- over lists
 
-more_of : {X : Type 0} (p : X → Bool) (xs : List X) (i : ℕ) (x : X) → i < length xs → x ≡ get_or xs i x → (list_any p (take i xs) || p x) ≡ list_any p (take (i + 1) xs)
+more_of : {X : Type 0} (p : X → Bool) (xs : List X) (i : ℕ) (x : X) → i < length xs → x ≡ get_or xs i x
+    → (list_any p (take i xs) || p x) ≡ list_any p (take (i + 1) xs)
 more_of p xs i x lt k = ap (λ y. list_any p (take i xs) || p y) k ∙ sym (list_any_more p xs i x lt)
 
 pub reads_next : {X : Type 0} (o p q : Walk) (f : X → Bit → Bool) (xs : List X) (i : ℕ) (x : X) → i < length xs → x ≡ get_or xs i x

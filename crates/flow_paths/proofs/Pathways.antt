@@ -1,5 +1,6 @@
 -- What a walk over a process finds of the conditions on paths.
-use Rattle.std.proofs.Common.{◌≡◌, ◌∙◌, sym, ap, subst, refl, ℕ, ◌+◌, ◌<◌, ◌≤◌, inl, inr, Bool, true, false, not, ◌||◌, ◌&&◌, Option, Some, None, List, [], ◌∷◌, length, get_or, arith}
+use Rattle.std.proofs.Common.{◌≡◌, ◌∙◌, sym, ap, subst, refl, ℕ, ◌+◌, ◌<◌, ◌≤◌, inl, inr, Bool, true, false, not, ◌||◌, ◌&&◌, Option, Some, None, List, [], ◌∷◌}
+use Rattle.std.proofs.Common.{length, get_or, arith}
 use Rattle.std.specs.Prelude.{IsTrue}
 use Rattle.std.specs.List.{list_any, list_all}
 use Rattle.std.proofs.lemmas.List.{get_or_past}
@@ -85,7 +86,14 @@ module _ (vars : List Var) (u : Uses) (steps : List Step) (o a : Walk) (fresh : 
         trail = subst (λ z. AreIn f.left.slots z) (sym t) (λ i d lt. absurd (omega (arith, lt)));
       };
       none = λ b i. decide (has f.left b) (λ g. subst (λ (q : Option ℕ). IsLeastOf (HasMetEither f.left u) q) none h b.var
-          (record { common = b; of_variable = refl; here = i; within = sym (filled b (there b i)) ∙ and_left (has a.left b) (not (always_steps steps b)) (sym (left b (there b i)) ∙ g); in_set = g }));
+          (record {
+            common = b;
+            of_variable = refl;
+            here = i;
+            within = sym (filled b (there b i))
+                ∙ and_left (has a.left b) (not (always_steps steps b)) (sym (left b (there b i)) ∙ g);
+            in_set = g;
+          }));
       trail = t;
     };
   }
@@ -197,7 +205,8 @@ pub first_next : (d : Design) (p : ℕ) (early : Option Place) (k : ProcessKind)
     → (is_comb (kind_of d p) ≡ true → IsLeastOf (IsReadBeforeWrite d p) found) → IsFirstBefore IsReadBeforeWrite d (p + 1) (first_of early k p found)
 first_next d p (Some x) k found e h f = h
 first_next d p None kind.Comb None e h f = before_more IsReadBeforeWrite d p h (f (sym (ap is_comb e)))
-first_next d p None kind.Comb (Some v) e h f = let l : IsLeastOf (IsReadBeforeWrite d p) (Some v) = f (sym (ap is_comb e)) in first_is IsReadBeforeWrite d p v h l.0 l.1
+first_next d p None kind.Comb (Some v) e h f = let l : IsLeastOf (IsReadBeforeWrite d p) (Some v) = f (sym (ap is_comb e)) in
+    first_is IsReadBeforeWrite d p v h l.0 l.1
 first_next d p None kind.Assign found e h f = before_more IsReadBeforeWrite d p h (λ w. not_early_of d p w (sym (ap is_comb e)))
 first_next d p None kind.Clocked found e h f = before_more IsReadBeforeWrite d p h (λ w. not_early_of d p w (sym (ap is_comb e)))
 first_next d p None kind.Initial found e h f = before_more IsReadBeforeWrite d p h (λ w. not_early_of d p w (sym (ap is_comb e)))

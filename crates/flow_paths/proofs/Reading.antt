@@ -1,5 +1,6 @@
 -- What is read in spans, and what a target surely names.
-use Rattle.std.proofs.Common.{◌≡◌, ◌∙◌, sym, ap, ap₂, subst, refl, ℕ, ◌+◌, ◌<◌, Bool, true, false, not, ◌||◌, ◌&&◌, Option, List, [], ◌∷◌, ◌++◌, length, get_or, take}
+use Rattle.std.proofs.Common.{◌≡◌, ◌∙◌, sym, ap, ap₂, subst, refl, ℕ, ◌+◌, ◌<◌, Bool, true, false, not, ◌||◌, ◌&&◌, Option, List, [], ◌∷◌, ◌++◌, length, get_or}
+use Rattle.std.proofs.Common.{take}
 use Rattle.std.specs.Prelude.{All, flat_map}
 use Rattle.std.specs.List.{list_any}
 use Rattle.cov_types.specs.declared.var.Var.{Var}
@@ -34,8 +35,10 @@ assign_bits b targets value =
     ap (λ r. meaning.is_in_any b (reads_of value) || r) (sym (any_flat (meaning.is_in b) target_reads targets))
     ∙ sym (any_append (meaning.is_in b) (reads_of value) (flat_map target_reads targets))
 
-pub assign_adds : (vars : List Var) (old mid new : List Span) (targets : List Target) (value : Typed) → Adds vars old mid (λ b. meaning.is_in_any b (reads_of value))
-    → Adds vars mid new (λ b. list_any (λ t. meaning.is_in_any b (target_reads t)) targets) → Adds vars old new (λ b. meaning.is_in_any b (assign_reads targets value))
+pub assign_adds : (vars : List Var) (old mid new : List Span) (targets : List Target) (value : Typed)
+    → Adds vars old mid (λ b. meaning.is_in_any b (reads_of value))
+    → Adds vars mid new (λ b. list_any (λ t. meaning.is_in_any b (target_reads t)) targets)
+    → Adds vars old new (λ b. meaning.is_in_any b (assign_reads targets value))
 assign_adds vars old mid new targets value x y = adds_same vars old new
     (λ b. meaning.is_in_any b (reads_of value) || list_any (λ t. meaning.is_in_any b (target_reads t)) targets) (λ b. meaning.is_in_any b (assign_reads targets value))
     (λ b. assign_bits b targets value)
@@ -43,7 +46,8 @@ assign_adds vars old mid new targets value x y = adds_same vars old new
 
 module _ (vars : List Var) (o n : Walk) (r : IsReady vars o) where
   pub read_marked : (old spans : List Span) (wanted : Bit → Bool) → old ≡ [] → Adds vars old spans wanted → All (IsMarked o.left.slots) spans
-  read_marked old spans wanted e a = subst (λ z. All (IsMarked o.left.slots) z) (sym (a.behind ∙ ap (λ z. z ++ a.more) e)) (spans_in vars o.left.slots r.left a.more a.spans)
+  read_marked old spans wanted e a = subst (λ z. All (IsMarked o.left.slots) z) (sym (a.behind
+      ∙ ap (λ z. z ++ a.more) e)) (spans_in vars o.left.slots r.left a.more a.spans)
 
   pub read_passes : (old spans : List Span) (wanted : Bit → Bool) → old ≡ [] → Adds vars old spans wanted → IsNoted o n spans → Passes o n (λ b. false) wanted
   read_passes old spans wanted e a x = record {

@@ -1,5 +1,6 @@
 -- Walks over each kind of step, from walks over its parts.
-use Rattle.std.proofs.Common.{◌≡◌, ◌∙◌, sym, ap, ap₂, subst, refl, ℕ, ◌+◌, ◌<◌, ◌≤◌, ◌⊎◌, inl, inr, Bool, true, false, not, ◌||◌, ◌&&◌, List, [], ◌∷◌, ◌++◌, length, get_or, take}
+use Rattle.std.proofs.Common.{◌≡◌, ◌∙◌, sym, ap, ap₂, subst, refl, ℕ, ◌+◌, ◌<◌, ◌≤◌, ◌⊎◌, inl, inr, Bool, true, false, not, ◌||◌, ◌&&◌, List, [], ◌∷◌, ◌++◌}
+use Rattle.std.proofs.Common.{length, get_or, take}
 use Rattle.std.specs.List.{list_any, list_all}
 use Rattle.std.proofs.lemmas.List.Folds.{list_any_more, list_all_more}
 use Rattle.cov_types.specs.declared.var.Var.{Var}
@@ -19,10 +20,12 @@ use Rattle.flow_marks.specs.Slots.{IsIn}
 use Rattle.flow_marks.specs.Sets.{MarkSet, has}
 use Rattle.flow_marks.specs.Takes.{AreIn, is_listed}
 use Rattle.flow_paths.specs.declared.walk.Walk.{Walk}
-use Rattle.flow_paths.specs.Walking.{IsEmpty, IsReady, IsUnwritten, Passes, Branches, ArmBranches, IsCommon, TakesAll, always_step, early_step, always_steps, early_steps}
+use Rattle.flow_paths.specs.Walking.{IsEmpty, IsReady, IsUnwritten, Passes, Branches, ArmBranches, IsCommon, TakesAll, always_step, early_step, always_steps}
+use Rattle.flow_paths.specs.Walking.{early_steps}
 use Rattle.flow_paths.proofs.Passing.{passes_same, passes_none, passes_both, reads_then, joined_none, joined_both, unwritten_by, in_left, in_right, or_cases}
 use Rattle.flow_paths.proofs.Branching.{branch_both, branch_same, branch_taken}
-use Rattle.flow_paths.proofs.StepPaths.{set_always, set_early, later_always, later_early, if_always, if_early, case_always, case_early, show_always, show_early, finish_always, finish_early, stop_always, stop_early, count_always, count_early, arms_read}
+use Rattle.flow_paths.proofs.StepPaths.{set_always, set_early, later_always, later_early, if_always, if_early, case_always, case_early, show_always, show_early}
+use Rattle.flow_paths.proofs.StepPaths.{finish_always, finish_early, stop_always, stop_early, count_always, count_early, arms_read}
 
 or_nothing : (a : Bool) → (a || false) ≡ a
 or_nothing true = refl
@@ -38,7 +41,8 @@ pub set_passes : (o m n : Walk) (targets : List Target) (value : Typed) (one : S
     → Passes o m (λ b. false) (λ b. is_in_any b (assign_reads targets value)) → Passes m n (λ b. list_any (surely_names b) targets) (λ b. false)
     → Passes o n (always_step one) (early_step one)
 set_passes o m n targets value one is x y = by_step o n one (step.Set targets value) (λ b. list_any (surely_names b) targets)
-    (λ b. is_in_any b (assign_reads targets value) || false) is (λ b. set_always b targets value) (λ b. set_early b targets value ∙ sym (or_nothing (is_in_any b (assign_reads targets value))))
+    (λ b. is_in_any b (assign_reads targets value) || false) is (λ b. set_always b targets value) (λ b. set_early b targets value
+    ∙ sym (or_nothing (is_in_any b (assign_reads targets value))))
     (reads_then o m n (λ b. is_in_any b (assign_reads targets value)) (λ b. list_any (surely_names b) targets) (λ b. false) x y)
 
 pub later_passes : (o n : Walk) (targets : List Target) (value : Typed) (one : Step) → one ≡ step.Later targets value
@@ -64,8 +68,10 @@ count_passes o counter one is h = by_step o o one (step.Count counter) (λ b. fa
 -- ---- branches
 
 -- the test is read, each branch is walked and taken back, and what both write is taken
-pub if_passes : (vars : List Var) (o m n p q r : Walk) (t s both : List Spot) (test : Typed) (left right : List Step) (one : Step) → one ≡ step.If test left right → IsReady vars m
-    → Passes o m (λ b. false) (λ b. is_in_any b (reads_of test)) → Branches m n t (always_steps left) (early_steps left) → Branches n p s (always_steps right) (early_steps right)
+pub if_passes : (vars : List Var) (o m n p q r : Walk) (t s both : List Spot) (test : Typed) (left right : List Step) (one : Step)
+    → one ≡ step.If test left right → IsReady vars m
+    → Passes o m (λ b. false) (λ b. is_in_any b (reads_of test)) → Branches m n t (always_steps left) (early_steps left)
+    → Branches n p s (always_steps right) (early_steps right)
     → q.left ≡ p.left → q.trail.items ≡ p.trail.items → q.early ≡ p.early → IsCommon p.spare q.spare t s both → TakesAll q r both
     → Passes o r (always_step one) (early_step one)
 if_passes vars o m n p q r t s both test left right one is ready x y z k l e c a = by_step o r one (step.If test left right) (λ b. always_steps left b && always_steps right b)
@@ -154,16 +160,20 @@ arms_none o t h i = record {
     and_true true = refl
     and_true false = refl
 
-pub arms_next : (vars : List Var) (o m n q : Walk) (first t s both : List Spot) (arms : List StepArm) (i : ℕ) (arm : StepArm) → i < length arms → arm ≡ get_or arms i arm → IsReady vars o
-    → Branches o m t (λ b. is_listed first b && all_always (take i arms) b) (any_early (take i arms)) → Branches m n s (always_steps arm.body) (early_steps arm.body)
+pub arms_next : (vars : List Var) (o m n q : Walk) (first t s both : List Spot) (arms : List StepArm) (i : ℕ) (arm : StepArm) → i < length arms
+    → arm ≡ get_or arms i arm → IsReady vars o
+    → Branches o m t (λ b. is_listed first b && all_always (take i arms) b) (any_early (take i arms))
+    → Branches m n s (always_steps arm.body) (early_steps arm.body)
     → q.left ≡ n.left → q.trail.items ≡ n.trail.items → q.early ≡ n.early → IsCommon n.spare q.spare t s both
     → Branches o q both (λ b. is_listed first b && all_always (take (i + 1) arms) b) (any_early (take (i + 1) arms))
 arms_next vars o m n q first t s both arms i arm lt is ready x y k l e c = branch_same o q both
     (λ b. (is_listed first b && all_always (take i arms) b) && always_steps arm.body b) (λ b. is_listed first b && all_always (take (i + 1) arms) b)
     (λ b. any_early (take i arms) b || early_steps arm.body b) (any_early (take (i + 1) arms))
     (λ b. assoc (is_listed first b) (all_always (take i arms) b) (always_steps arm.body b)
-    ∙ ap (λ r. is_listed first b && r) (ap (λ (a : StepArm). all_always (take i arms) b && always_steps a.body b) is ∙ sym (list_all_more (λ (a : StepArm). always_steps a.body b) arms i arm lt)))
-    (λ b. ap (λ (a : StepArm). any_early (take i arms) b || early_steps a.body b) is ∙ sym (list_any_more (λ (a : StepArm). early_steps a.body b) arms i arm lt))
+    ∙ ap (λ r. is_listed first b && r) (ap (λ (a : StepArm). all_always (take i arms) b && always_steps a.body b) is
+    ∙ sym (list_all_more (λ (a : StepArm). always_steps a.body b) arms i arm lt)))
+    (λ b. ap (λ (a : StepArm). any_early (take i arms) b || early_steps a.body b) is
+    ∙ sym (list_any_more (λ (a : StepArm). early_steps a.body b) arms i arm lt))
     (branch_both vars o m n q t s both (λ b. is_listed first b && all_always (take i arms) b) (always_steps arm.body) (any_early (take i arms)) (early_steps arm.body) ready x y k l e c)
   where
     assoc : (a b d : Bool) → ((a && b) && d) ≡ (a && (b && d))

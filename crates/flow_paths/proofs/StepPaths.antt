@@ -12,7 +12,8 @@ use Rattle.design_tree.specs.declared.step.Step.TheVariants as step
 use Rattle.circuit_run.specs.States.{Bit}
 use Rattle.design_meaning.specs.Spans.{Span, is_in, is_in_any, reads_of}
 use Rattle.design_meaning.specs.Targets.{surely_names}
-use Rattle.design_meaning.specs.Paths.{Path, Event, reads, sets, defers, ArmPaths, paths_of_step, paths, step_paths, arm_paths, assign_reads, piece_reads, item_reads}
+use Rattle.design_meaning.specs.Paths.{Path, Event, reads, sets, defers, ArmPaths, paths_of_step, paths, step_paths, arm_paths, assign_reads, piece_reads}
+use Rattle.design_meaning.specs.Paths.{item_reads}
 use Rattle.design_meaning.specs.Reach.{event_writes, read_first}
 use Rattle.design_meaning.proofs.StepFolds as steps
 use Rattle.design_meaning.proofs.HasPath.{all_have}
@@ -95,7 +96,8 @@ if_early b test left right = ap (list_any (read_first b)) (steps.fold-If (List P
 
 -- ---- cases
 
-bodies_always : (b : Bit) (arms : List StepArm) → list_all (list_any (event_writes b)) (bodies arms) ≡ list_all (λ (arm : StepArm). always_steps arm.body b) arms
+bodies_always : (b : Bit) (arms : List StepArm) → list_all (list_any (event_writes b)) (bodies arms)
+    ≡ list_all (λ (arm : StepArm). always_steps arm.body b) arms
 bodies_always b arms = all_flat (list_any (event_writes b)) (λ (a : ArmPaths). a.body) (map arm_form arms)
     ∙ all_map (λ (a : ArmPaths). list_all (list_any (event_writes b)) a.body) arm_form arms
     ∙ all_same (λ (arm : StepArm). list_all (list_any (event_writes b)) (paths arm.body)) (λ (arm : StepArm). always_steps arm.body b) (λ arm. always_block b arm.body) arms
@@ -121,7 +123,8 @@ case_always b on arms rest = ap (list_all (list_any (event_writes b))) (case_pat
     ∙ always_behind b (reads_of on ++ arm_spans arms) (bodies arms) (paths rest) ∙ ap₂ ◌&&◌ (bodies_always b arms) (always_block b rest)
 
 pub case_early : (b : Bit) (on : Typed) (arms : List StepArm) (rest : List Step)
-    → early_step (step.Case on arms rest) b ≡ ((is_in_any b (reads_of on) || arms_read b arms) || (list_any (λ (arm : StepArm). early_steps arm.body b) arms || early_steps rest b))
+    → early_step (step.Case on arms rest) b
+    ≡ ((is_in_any b (reads_of on) || arms_read b arms) || (list_any (λ (arm : StepArm). early_steps arm.body b) arms || early_steps rest b))
 case_early b on arms rest = ap (list_any (read_first b)) (case_paths on arms rest)
     ∙ early_behind b (reads_of on ++ arm_spans arms) (bodies arms) (paths rest) (either_has (bodies arms) rest)
     ∙ ap₂ ◌||◌ (any_append (is_in b) (reads_of on) (arm_spans arms) ∙ ap (λ r. is_in_any b (reads_of on) || r) (items_read b arms))

@@ -1,3 +1,4 @@
 pub mod Adding
 pub mod ReadBits
 pub mod Arms
+pub mod OfVars

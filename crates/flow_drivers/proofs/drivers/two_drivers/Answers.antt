@@ -6,7 +6,7 @@ use Rattle.design_meaning.specs.Flow.{HasTwoDrivers}
 use Rattle.flow_marks.specs.Slots.{AreFew}
 use Rattle.flow_uses.specs.Uses.{AreUsesOf}
 use Rattle.flow_least.specs.Least.{IsLeastOf}
-use Rattle.flow_least.proofs.OfVars.{few_of}
+use Rattle.flow_spans.proofs.OfVars.{few_of}
 use Rattle.flow_least.proofs.Searching.{before_none, before_more, before_all, first_is, used_at, kind_at}
 use Rattle.flow_drivers.specs.Driven.{AreNone}
 use Rattle.flow_drivers.proofs.Sharing.{none_are, all_marked, next_are, shared_is, none_past}
@@ -35,7 +35,8 @@ returns-in-Some c =
     used_at c.args.design.now c.args.uses.now c.requires.many c.requires.uses c.loop-at.at c.index-uses-at.result lt c.index-uses-at.is in
     let k : (get_or c.as_slice-processes.result.now c.loop-at.at c.index-processes-at.result).kind ≡ kind_of c.args.design.now c.loop-at.at =
     ap (λ (x : Process). x.kind) (sym c.index-processes-at.is) ∙ kind_at c.args.design.now c.loop-at.at c.index-processes-at.result lt
-    (subst (λ (ps : List Process). c.index-processes-at.result ≡ get_or ps c.loop-at.at c.index-processes-at.result) c.as_slice-processes.ensures c.index-processes-at.is) in
+    (subst (λ (ps : List Process). c.index-processes-at.result
+    ≡ get_or ps c.loop-at.at c.index-processes-at.result) c.as_slice-processes.ensures c.index-processes-at.is) in
     let l : IsLeastOf (HasTwoDrivers c.args.design.now c.loop-at.at) (Some c.in-Some.var) =
     shared_is c.args.design.now c.loop-at.at c.index-uses-at.result lt u c.loop-at.driven (get_or c.as_slice-processes.result.now c.loop-at.at c.index-processes-at.result).kind k c.loop-at.invariant.driven (Some c.in-Some.var) c.in-Some.ensures in
     first_is HasTwoDrivers c.args.design.now c.loop-at.at c.in-Some.var c.loop-at.invariant.kept l.0 l.1
@@ -56,7 +57,8 @@ loop-at-preserved c =
     used_at c.args.design.now c.args.uses.now c.requires.many c.requires.uses c.loop-at.at c.index-uses-at-in-None.result lt c.index-uses-at-in-None.is in
     let k : (get_or c.as_slice-processes.result.now c.loop-at.at c.index-processes-at.result).kind ≡ kind_of c.args.design.now c.loop-at.at =
     ap (λ (x : Process). x.kind) (sym c.index-processes-at.is) ∙ kind_at c.args.design.now c.loop-at.at c.index-processes-at.result lt
-    (subst (λ (ps : List Process). c.index-processes-at.result ≡ get_or ps c.loop-at.at c.index-processes-at.result) c.as_slice-processes.ensures c.index-processes-at.is) in
+    (subst (λ (ps : List Process). c.index-processes-at.result
+    ≡ get_or ps c.loop-at.at c.index-processes-at.result) c.as_slice-processes.ensures c.index-processes-at.is) in
     let l : IsLeastOf (HasTwoDrivers c.args.design.now c.loop-at.at) None =
     shared_is c.args.design.now c.loop-at.at c.index-uses-at.result lt u c.loop-at.driven (get_or c.as_slice-processes.result.now c.loop-at.at c.index-processes-at.result).kind k c.loop-at.invariant.driven None c.in-None.ensures in
     record {

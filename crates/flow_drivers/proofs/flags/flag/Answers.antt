@@ -11,4 +11,5 @@ loop-span-preserved c =
     flag_next c.args.spans.now c.loop-span.span-index (record { var = 0; word = 0; word_end = 0; place = 0; place_end = 0 }) c.loop-span-test.true c.loop-span.flags c.args.flags.now c.args.value inside c.loop-span.invariant
 
 pub returns : goal.returns
-returns c = λ v. c.loop-span.invariant v ∙ ap (λ ys. if has_var ys v then c.args.value else get_or c.args.flags.now v false) (take_all c.loop-span.span-index c.args.spans.now c.loop-span-test.false)
+returns c = λ v. c.loop-span.invariant v
+    ∙ ap (λ ys. if has_var ys v then c.args.value else get_or c.args.flags.now v false) (take_all c.loop-span.span-index c.args.spans.now c.loop-span-test.false)

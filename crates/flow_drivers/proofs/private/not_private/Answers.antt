@@ -36,9 +36,11 @@ returns-in-Some c =
     used_at c.args.design.now c.args.uses.now c.requires.many c.requires.uses c.loop-at.at c.index-uses-at.result lt c.index-uses-at.is in
     let k : (get_or c.as_slice-processes.result.now c.loop-at.at c.index-processes-at.result).kind ≡ kind_of c.args.design.now c.loop-at.at =
     ap (λ (x : Process). x.kind) (sym c.index-processes-at.is) ∙ kind_at c.args.design.now c.loop-at.at c.index-processes-at.result lt
-    (subst (λ (ps : List Process). c.index-processes-at.result ≡ get_or ps c.loop-at.at c.index-processes-at.result) c.as_slice-processes.ensures c.index-processes-at.is) in
+    (subst (λ (ps : List Process). c.index-processes-at.result
+    ≡ get_or ps c.loop-at.at c.index-processes-at.result) c.as_slice-processes.ensures c.index-processes-at.is) in
     let flags : (v : ℕ) → get_or c.in_ok-outputs.outputs.items v false ≡ list_any (λ o. o == v) c.args.design.now.outputs =
-    subst (λ (os : List ℕ). (v : ℕ) → get_or c.in_ok-outputs.outputs.items v false ≡ list_any (λ o. o == v) os) c.as_slice.ensures c.in_ok-outputs.ensures.flags in
+    subst (λ (os : List ℕ). (v : ℕ) → get_or c.in_ok-outputs.outputs.items v false
+    ≡ list_any (λ o. o == v) os) c.as_slice.ensures c.in_ok-outputs.ensures.flags in
     let l : IsLeastOf (IsNotPrivate c.args.design.now c.loop-at.at) (Some c.in-Some.var) = private_is c.args.design.now c.in_ok-watches.watches.items c.in_ok-outputs.outputs.items c.in_ok-watches.ensures flags c.loop-at.at c.index-uses-at.result u (get_or c.as_slice-processes.result.now c.loop-at.at c.index-processes-at.result).kind k (Some c.in-Some.var)
     (subst (λ (os : List Bool). IsLeastOf (IsSeenIn (get_or c.as_slice-processes.result.now c.loop-at.at c.index-processes-at.result).kind c.index-uses-at.result c.in_ok-watches.watches.items os c.loop-at.at) (Some c.in-Some.var)) c.as_slice-in-loop-at-2.ensures.value
     (subst (λ (ws : List Watch). IsLeastOf (IsSeenIn (get_or c.as_slice-processes.result.now c.loop-at.at c.index-processes-at.result).kind c.index-uses-at.result ws c.as_slice-in-loop-at-2.result.now c.loop-at.at) (Some c.in-Some.var)) c.as_slice-in-loop-at.ensures.value c.in-Some.ensures)) in
@@ -51,9 +53,11 @@ loop-at-preserved c =
     used_at c.args.design.now c.args.uses.now c.requires.many c.requires.uses c.loop-at.at c.index-uses-at.result lt c.index-uses-at.is in
     let k : (get_or c.as_slice-processes.result.now c.loop-at.at c.index-processes-at.result).kind ≡ kind_of c.args.design.now c.loop-at.at =
     ap (λ (x : Process). x.kind) (sym c.index-processes-at.is) ∙ kind_at c.args.design.now c.loop-at.at c.index-processes-at.result lt
-    (subst (λ (ps : List Process). c.index-processes-at.result ≡ get_or ps c.loop-at.at c.index-processes-at.result) c.as_slice-processes.ensures c.index-processes-at.is) in
+    (subst (λ (ps : List Process). c.index-processes-at.result
+    ≡ get_or ps c.loop-at.at c.index-processes-at.result) c.as_slice-processes.ensures c.index-processes-at.is) in
     let flags : (v : ℕ) → get_or c.in_ok-outputs.outputs.items v false ≡ list_any (λ o. o == v) c.args.design.now.outputs =
-    subst (λ (os : List ℕ). (v : ℕ) → get_or c.in_ok-outputs.outputs.items v false ≡ list_any (λ o. o == v) os) c.as_slice.ensures c.in_ok-outputs.ensures.flags in
+    subst (λ (os : List ℕ). (v : ℕ) → get_or c.in_ok-outputs.outputs.items v false
+    ≡ list_any (λ o. o == v) os) c.as_slice.ensures c.in_ok-outputs.ensures.flags in
     let l : IsLeastOf (IsNotPrivate c.args.design.now c.loop-at.at) None = private_is c.args.design.now c.in_ok-watches.watches.items c.in_ok-outputs.outputs.items c.in_ok-watches.ensures flags c.loop-at.at c.index-uses-at.result u (get_or c.as_slice-processes.result.now c.loop-at.at c.index-processes-at.result).kind k None
     (subst (λ (os : List Bool). IsLeastOf (IsSeenIn (get_or c.as_slice-processes.result.now c.loop-at.at c.index-processes-at.result).kind c.index-uses-at.result c.in_ok-watches.watches.items os c.loop-at.at) None) c.as_slice-in-loop-at-2.ensures.value
     (subst (λ (ws : List Watch). IsLeastOf (IsSeenIn (get_or c.as_slice-processes.result.now c.loop-at.at c.index-processes-at.result).kind c.index-uses-at.result ws c.as_slice-in-loop-at-2.result.now c.loop-at.at) None) c.as_slice-in-loop-at.ensures.value c.in-None.ensures)) in

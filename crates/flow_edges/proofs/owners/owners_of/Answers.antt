@@ -5,7 +5,8 @@ use Rattle.design_tree.specs.declared.design.Process.{Process}
 use Rattle.flow_marks.specs.Slots.{AreFew}
 use Rattle.flow_uses.specs.Uses.{AreUsesOf, no_uses}
 use Rattle.flow_edges.specs.Owning.{IsBlank}
-use Rattle.flow_edges.proofs.Layouts.{few_of, are_numbered}
+use Rattle.flow_spans.proofs.OfVars.{few_of}
+use Rattle.flow_edges.proofs.Layouts.{are_numbered}
 use Rattle.flow_edges.proofs.Owned.{kind_read, targets_in, none_named, one_named, are_owners}
 use Rattle.flow_edges.proofs.owners.owners_of.Goals as goal
 

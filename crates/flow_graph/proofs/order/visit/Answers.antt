@@ -2,7 +2,8 @@ use Rattle.std.proofs.Common.{arith, sym, ◌∙◌, ap, ◌≡◌, ◌<◌, ◌
 use Rattle.flow_graph.specs.declared.order.Mark.TheVariants.{New, Open, Listed}
 use Rattle.flow_graph.specs.Graph.{next_of}
 use Rattle.flow_graph.proofs.Search.{all_passed}
-use Rattle.flow_graph.proofs.Walking.{Top, Edge, top_from, edge_from, mark_read, popped_is, visit_push, visit_pass, visit_finish, visit_pop, visit_loop, less_push, less_pass, less_finish, less_pop}
+use Rattle.flow_graph.proofs.Walking.{Top, Edge, top_from, edge_from, mark_read, popped_is, visit_push, visit_pass, visit_finish, visit_pop, visit_loop}
+use Rattle.flow_graph.proofs.Walking.{less_push, less_pass, less_finish, less_pop}
 use Rattle.flow_graph.proofs.order.visit.Goals as goal
 
 pub index-requires : goal.index-requires

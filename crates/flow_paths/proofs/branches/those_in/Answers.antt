@@ -21,4 +21,5 @@ loop-spot-preserved c = elim c.if-has.branch [
 ]
 
 pub returns-clause-bits : goal.returns-clause-bits
-returns-clause-bits c = λ b. c.loop-spot.invariant.bits b ∙ ap (λ z. is_listed z b && has c.args.marks.now b) (take_all c.loop-spot.spot-index c.args.spots.now c.loop-spot-test.false)
+returns-clause-bits c = λ b. c.loop-spot.invariant.bits b
+    ∙ ap (λ z. is_listed z b && has c.args.marks.now b) (take_all c.loop-spot.spot-index c.args.spots.now c.loop-spot-test.false)

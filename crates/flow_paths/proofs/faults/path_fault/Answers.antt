@@ -14,7 +14,8 @@ use Rattle.flow_uses.specs.Uses.{AreUsesOf}
 use Rattle.flow_uses.specs.Gathers.{AreStepsIn}
 use Rattle.flow_uses.proofs.Whole.{body_in, variables_of}
 use Rattle.flow_least.specs.Least.{IsLeastOf}
-use Rattle.flow_least.proofs.OfVars.{few_of, spans_in}
+use Rattle.flow_spans.proofs.OfVars.{few_of}
+use Rattle.flow_least.proofs.OfVars.{spans_in}
 use Rattle.flow_least.proofs.Searching.{before_more, before_all, first_is, used_at, kind_at}
 use Rattle.flow_least.specs.declared.place.Place.{Place}
 use Rattle.flow_paths.specs.Faults.{IsWalked, IsKeptIn, IsFirstBefore}
@@ -37,7 +38,8 @@ walk_process-requires-clause-body c =
     let state : IsStateOf c.args.design.now c.in_ok-state.state =
     subst (IsStateOf c.args.design.now) (sym c.in_ok-state.ensures) (start_is_state c.args.design.now (variables_of c.args.design.now c.requires.valid)) in
     let is : c.index-processes-at-then-settles.result ≡ get_or c.args.design.now.processes c.loop-at.at c.index-processes-at-then-settles.result =
-    subst (λ (ps : List Process). c.index-processes-at-then-settles.result ≡ get_or ps c.loop-at.at c.index-processes-at-then-settles.result) c.as_slice-processes.ensures c.index-processes-at-then-settles.is in
+    subst (λ (ps : List Process). c.index-processes-at-then-settles.result
+    ≡ get_or ps c.loop-at.at c.index-processes-at-then-settles.result) c.as_slice-processes.ensures c.index-processes-at-then-settles.is in
     let b : c.as_slice-body.result.now ≡ c.index-processes-at-then-settles.result.body = cc (c.as_slice-body.ensures, c.index-processes-at-then-settles.is) in
     subst (AreStepsIn c.in_ok-state.state) (sym b) (body_in c.args.design.now c.requires.valid c.in_ok-state.state state c.loop-at.at c.index-processes-at-then-settles.result lt is)
 
@@ -58,9 +60,11 @@ returns-in-Some-clause-fault c =
     used_at c.args.design.now c.args.uses.now c.requires.many c.requires.uses c.loop-at.at c.index-uses-at.result lt c.index-uses-at.is in
     let k : (get_or c.as_slice-processes.result.now c.loop-at.at c.index-processes-at.result).kind ≡ kind_of c.args.design.now c.loop-at.at =
     ap (λ (x : Process). x.kind) (sym c.index-processes-at.is) ∙ kind_at c.args.design.now c.loop-at.at c.index-processes-at.result lt
-    (subst (λ (ps : List Process). c.index-processes-at.result ≡ get_or ps c.loop-at.at c.index-processes-at.result) c.as_slice-processes.ensures c.index-processes-at.is) in
+    (subst (λ (ps : List Process). c.index-processes-at.result
+    ≡ get_or ps c.loop-at.at c.index-processes-at.result) c.as_slice-processes.ensures c.index-processes-at.is) in
     let is : c.index-processes-at-then-settles.result ≡ get_or c.args.design.now.processes c.loop-at.at c.index-processes-at-then-settles.result =
-    subst (λ (ps : List Process). c.index-processes-at-then-settles.result ≡ get_or ps c.loop-at.at c.index-processes-at-then-settles.result) c.as_slice-processes.ensures c.index-processes-at-then-settles.is in
+    subst (λ (ps : List Process). c.index-processes-at-then-settles.result
+    ≡ get_or ps c.loop-at.at c.index-processes-at-then-settles.result) c.as_slice-processes.ensures c.index-processes-at-then-settles.is in
     let b : c.as_slice-body.result.now ≡ c.index-processes-at-then-settles.result.body = cc (c.as_slice-body.ensures, c.index-processes-at-then-settles.is) in
     let st : settles (kind_of c.args.design.now c.loop-at.at) ≡ true = sym (ap settles k) ∙ sym c.settles.ensures ∙ c.if-settles.true in
     let walk : IsWalked c.args.design.now.vars c.index-uses-at.result (process_of c.args.design.now c.loop-at.at).body c.walk_process.new.walk c.in_ok-var.field-0 =
@@ -79,9 +83,11 @@ loop-at-preserved c = elim c.if-settles.branch [
       used_at c.args.design.now c.args.uses.now c.requires.many c.requires.uses c.loop-at.at w.index-uses-at.result lt w.index-uses-at.is in
       let k : (get_or c.as_slice-processes.result.now c.loop-at.at c.index-processes-at.result).kind ≡ kind_of c.args.design.now c.loop-at.at =
       ap (λ (x : Process). x.kind) (sym c.index-processes-at.is) ∙ kind_at c.args.design.now c.loop-at.at c.index-processes-at.result lt
-      (subst (λ (ps : List Process). c.index-processes-at.result ≡ get_or ps c.loop-at.at c.index-processes-at.result) c.as_slice-processes.ensures c.index-processes-at.is) in
+      (subst (λ (ps : List Process). c.index-processes-at.result
+      ≡ get_or ps c.loop-at.at c.index-processes-at.result) c.as_slice-processes.ensures c.index-processes-at.is) in
       let is : w.index-processes-at-then-settles.result ≡ get_or c.args.design.now.processes c.loop-at.at w.index-processes-at-then-settles.result =
-      subst (λ (ps : List Process). w.index-processes-at-then-settles.result ≡ get_or ps c.loop-at.at w.index-processes-at-then-settles.result) c.as_slice-processes.ensures w.index-processes-at-then-settles.is in
+      subst (λ (ps : List Process). w.index-processes-at-then-settles.result
+      ≡ get_or ps c.loop-at.at w.index-processes-at-then-settles.result) c.as_slice-processes.ensures w.index-processes-at-then-settles.is in
       let b : w.as_slice-body.result.now ≡ w.index-processes-at-then-settles.result.body = cc (w.as_slice-body.ensures, w.index-processes-at-then-settles.is) in
       let st : settles (kind_of c.args.design.now c.loop-at.at) ≡ true = sym (ap settles k) ∙ sym c.settles.ensures ∙ w.if-settles.true in
       let walk : IsWalked c.args.design.now.vars w.index-uses-at.result (process_of c.args.design.now c.loop-at.at).body w.walk_process.new.walk w.in_ok-var.field-0 =
@@ -101,7 +107,8 @@ loop-at-preserved c = elim c.if-settles.branch [
       let lt : c.loop-at.at < length c.args.design.now.processes = subst (λ (ps : List Process). c.loop-at.at < length ps) c.as_slice-processes.ensures c.loop-at-test.true in
       let k : (get_or c.as_slice-processes.result.now c.loop-at.at c.index-processes-at.result).kind ≡ kind_of c.args.design.now c.loop-at.at =
       ap (λ (x : Process). x.kind) (sym c.index-processes-at.is) ∙ kind_at c.args.design.now c.loop-at.at c.index-processes-at.result lt
-      (subst (λ (ps : List Process). c.index-processes-at.result ≡ get_or ps c.loop-at.at c.index-processes-at.result) c.as_slice-processes.ensures c.index-processes-at.is) in
+      (subst (λ (ps : List Process). c.index-processes-at.result
+      ≡ get_or ps c.loop-at.at c.index-processes-at.result) c.as_slice-processes.ensures c.index-processes-at.is) in
       let st : settles (kind_of c.args.design.now c.loop-at.at) ≡ false = sym (ap settles k) ∙ sym c.settles.ensures ∙ w.if-settles.false in
       rw (w.walk-is, w.early-is) (record {
         fresh = c.loop-at.invariant.fresh;
