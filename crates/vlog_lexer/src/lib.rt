@@ -13,8 +13,6 @@ mod position;
 mod quoted;
 mod reading;
 mod sending;
-#[cfg(test)]
-mod tests;
 
 pub use cov_types::{ByteText, LimitName, NoMemory, Place, Pragma, PragmaKind, Rows};
 pub use fault::LexFault;

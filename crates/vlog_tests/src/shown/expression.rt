@@ -2,28 +2,27 @@
 
 use cov_types::{ByteText, Place};
 use std::fmt::Write;
-use std::test::Fail;
 use vlog_tree::{Expr, NamePlace, RangeExpr, Select};
 
-pub(super) fn bytes(out: &mut String, bytes: &ByteText) -> Result<(), Fail> {
+pub(super) fn bytes(out: &mut String, bytes: &ByteText) -> anyhow::Result<()> {
     for byte in bytes.as_slice() {
         out.push(char::from(*byte))?;
     }
     Ok(())
 }
 
-pub(super) fn place(out: &mut String, place: Place) -> Result<(), Fail> {
+pub(super) fn place(out: &mut String, place: Place) -> anyhow::Result<()> {
     write!(out, "@{}:{}", place.line, place.column)?;
     Ok(())
 }
 
-pub(super) fn named(out: &mut String, name: &NamePlace) -> Result<(), Fail> {
+pub(super) fn named(out: &mut String, name: &NamePlace) -> anyhow::Result<()> {
     out.push_str(" ")?;
     bytes(out, &name.name)?;
     place(out, name.place)
 }
 
-pub(super) fn flag(out: &mut String, is: bool, word: &str) -> Result<(), Fail> {
+pub(super) fn flag(out: &mut String, is: bool, word: &str) -> anyhow::Result<()> {
     if is {
         write!(out, " {word}")?;
     }
@@ -31,7 +30,7 @@ pub(super) fn flag(out: &mut String, is: bool, word: &str) -> Result<(), Fail> {
 }
 
 #[cycle(expression)]
-pub(super) fn expr(out: &mut String, tree: &Expr) -> Result<(), Fail> {
+pub(super) fn expr(out: &mut String, tree: &Expr) -> anyhow::Result<()> {
     out.push_str(" ")?;
     match tree {
         Expr::Number {
@@ -96,7 +95,7 @@ pub(super) fn expr(out: &mut String, tree: &Expr) -> Result<(), Fail> {
 }
 
 #[cycle(expression)]
-pub(super) fn exprs(out: &mut String, trees: &[Expr]) -> Result<(), Fail> {
+pub(super) fn exprs(out: &mut String, trees: &[Expr]) -> anyhow::Result<()> {
     for tree in trees {
         expr(out, tree)?;
     }
@@ -104,7 +103,7 @@ pub(super) fn exprs(out: &mut String, trees: &[Expr]) -> Result<(), Fail> {
 }
 
 #[cycle(expression)]
-fn part(out: &mut String, select: &Select) -> Result<(), Fail> {
+fn part(out: &mut String, select: &Select) -> anyhow::Result<()> {
     match select {
         Select::At(at) => expr(out, at.get())?,
         Select::Between(high, low) => {
@@ -126,7 +125,7 @@ fn part(out: &mut String, select: &Select) -> Result<(), Fail> {
     Ok(())
 }
 
-pub(super) fn range(out: &mut String, range: &RangeExpr) -> Result<(), Fail> {
+pub(super) fn range(out: &mut String, range: &RangeExpr) -> anyhow::Result<()> {
     out.push_str(" [")?;
     expr(out, &range.high)?;
     out.push_str(" :")?;
@@ -135,14 +134,14 @@ pub(super) fn range(out: &mut String, range: &RangeExpr) -> Result<(), Fail> {
     Ok(())
 }
 
-pub(super) fn ranged(out: &mut String, bounds: &Option<RangeExpr>) -> Result<(), Fail> {
+pub(super) fn ranged(out: &mut String, bounds: &Option<RangeExpr>) -> anyhow::Result<()> {
     match bounds {
         Some(bounds) => range(out, bounds),
         None => Ok(()),
     }
 }
 
-pub(super) fn valued(out: &mut String, value: &Option<Expr>) -> Result<(), Fail> {
+pub(super) fn valued(out: &mut String, value: &Option<Expr>) -> anyhow::Result<()> {
     match value {
         Some(value) => {
             out.push_str(" =")?;

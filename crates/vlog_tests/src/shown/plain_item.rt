@@ -2,10 +2,9 @@
 
 use super::expression::{bytes, expr, exprs, flag, named, place, range, ranged, valued};
 use super::statement::stmt;
-use std::test::Fail;
 use vlog_tree::{Conns, ItemKind, ParamForm};
 
-fn conns(out: &mut String, conns: &Conns) -> Result<(), Fail> {
+fn conns(out: &mut String, conns: &Conns) -> anyhow::Result<()> {
     out.push_str(" (")?;
     match conns {
         Conns::Ordered(all) => exprs(out, all.as_slice())?,
@@ -21,7 +20,7 @@ fn conns(out: &mut String, conns: &Conns) -> Result<(), Fail> {
     Ok(())
 }
 
-fn form(out: &mut String, form: &ParamForm) -> Result<(), Fail> {
+fn form(out: &mut String, form: &ParamForm) -> anyhow::Result<()> {
     match form {
         ParamForm::Plain => {}
         ParamForm::Integer => out.push_str(" integer")?,
@@ -37,7 +36,7 @@ fn form(out: &mut String, form: &ParamForm) -> Result<(), Fail> {
 }
 
 /// An item that holds no items, or the word that the others begin with.
-pub(super) fn plain(out: &mut String, what: &ItemKind) -> Result<(), Fail> {
+pub(super) fn plain(out: &mut String, what: &ItemKind) -> anyhow::Result<()> {
     match what {
         ItemKind::Wire {
             signed,

@@ -1,11 +1,10 @@
 //! Statements.
 
 use super::expression::{bytes, expr, exprs, place};
-use std::test::Fail;
 use vlog_tree::{CaseArm, Stmt, StmtKind};
 
 #[cycle(statement)]
-pub(super) fn stmt(out: &mut String, tree: &Stmt) -> Result<(), Fail> {
+pub(super) fn stmt(out: &mut String, tree: &Stmt) -> anyhow::Result<()> {
     match &tree.what {
         StmtKind::Empty => out.push_str(" ;")?,
         StmtKind::Block { body, last } => {
@@ -84,7 +83,7 @@ pub(super) fn stmt(out: &mut String, tree: &Stmt) -> Result<(), Fail> {
 }
 
 #[cycle(statement)]
-fn stmts(out: &mut String, trees: &[Stmt]) -> Result<(), Fail> {
+fn stmts(out: &mut String, trees: &[Stmt]) -> anyhow::Result<()> {
     for tree in trees {
         stmt(out, tree)?;
     }
@@ -92,7 +91,7 @@ fn stmts(out: &mut String, trees: &[Stmt]) -> Result<(), Fail> {
 }
 
 #[cycle(statement)]
-fn arms_of(out: &mut String, arms: &[CaseArm]) -> Result<(), Fail> {
+fn arms_of(out: &mut String, arms: &[CaseArm]) -> anyhow::Result<()> {
     for arm in arms {
         out.push_str(" (arm")?;
         place(out, arm.place)?;

@@ -8,7 +8,6 @@ use expression::{bytes, expr, flag, named, place, range};
 use plain_item::plain;
 use std::alloc::Global;
 use std::fmt::Write;
-use std::test::Fail;
 use vlog_tree::{GenArm, GenBody, Item, ItemKind, Module, Port, SourceFile};
 
 /// A tree written down.
@@ -29,7 +28,7 @@ impl Shown {
         text
     }
 
-    pub(crate) fn file(&mut self, file: &SourceFile) -> Result<(), Fail> {
+    pub(crate) fn file(&mut self, file: &SourceFile) -> anyhow::Result<()> {
         for one in file.modules.as_slice() {
             module(&mut self.text, one)?;
         }
@@ -41,7 +40,7 @@ impl Shown {
 }
 
 #[cycle(item)]
-fn item(out: &mut String, tree: &Item) -> Result<(), Fail> {
+fn item(out: &mut String, tree: &Item) -> anyhow::Result<()> {
     out.push_str(" (")?;
     plain(out, &tree.what)?;
     match &tree.what {
@@ -86,7 +85,7 @@ fn item(out: &mut String, tree: &Item) -> Result<(), Fail> {
 }
 
 #[cycle(item)]
-fn items(out: &mut String, trees: &[Item]) -> Result<(), Fail> {
+fn items(out: &mut String, trees: &[Item]) -> anyhow::Result<()> {
     for tree in trees {
         item(out, tree)?;
     }
@@ -94,7 +93,7 @@ fn items(out: &mut String, trees: &[Item]) -> Result<(), Fail> {
 }
 
 #[cycle(item)]
-fn gen_arms(out: &mut String, arms: &[GenArm]) -> Result<(), Fail> {
+fn gen_arms(out: &mut String, arms: &[GenArm]) -> anyhow::Result<()> {
     for arm in arms {
         out.push_str(" if")?;
         expr(out, &arm.test)?;
@@ -104,7 +103,7 @@ fn gen_arms(out: &mut String, arms: &[GenArm]) -> Result<(), Fail> {
 }
 
 #[cycle(item)]
-fn gen_body(out: &mut String, body: &GenBody) -> Result<(), Fail> {
+fn gen_body(out: &mut String, body: &GenBody) -> anyhow::Result<()> {
     match &body.name {
         Some(name) => named(out, name)?,
         None => {}
@@ -119,7 +118,7 @@ fn gen_body(out: &mut String, body: &GenBody) -> Result<(), Fail> {
     items(out, body.items.as_slice())
 }
 
-fn port(out: &mut String, port: &Port) -> Result<(), Fail> {
+fn port(out: &mut String, port: &Port) -> anyhow::Result<()> {
     write!(out, " ({:?}", port.kind)?;
     flag(out, port.signed, "signed")?;
     match &port.range {
@@ -134,7 +133,7 @@ fn port(out: &mut String, port: &Port) -> Result<(), Fail> {
     Ok(())
 }
 
-fn module(out: &mut String, module: &Module) -> Result<(), Fail> {
+fn module(out: &mut String, module: &Module) -> anyhow::Result<()> {
     out.push_str("module ")?;
     bytes(out, &module.name)?;
     place(out, module.place)?;
