@@ -3,7 +3,7 @@ use Rattle.std.proofs.Common.{◌≡◌, ℕ, zero, suc, ◌<◌, ◌≤◌, ◌
 use Rattle.test_rank.specs.declared.ranking.RankRow.{RankRow}
 use Rattle.test_rank.specs.Ranking.{Covers, gain, AreChosen, next, complete, IsRanking, ranked, pairs_of}
 use Rattle.test_rank.specs.Laws.{OneRanking}
-use Rattle.report_tests.specs.ThreeTests.{three_covers, three_rows}
+use Rattle.rank_tests.specs.ThreeTests.{three_covers, three_rows}
 
 -- behind no test, behind the first, and behind both
 first_most : (other : ℕ) → gain three_covers [] other ≤ 3

@@ -1,5 +1,5 @@
 use Rattle.std.proofs.Common.{length}
-use Rattle.report_tests.proofs.tests.rankings.+ascends.Given as goal
+use Rattle.rank_tests.proofs.tests.rankings.+ascends.Given as goal
 
 abbrev pub decreases-ascends : goal.decreases-ascends
 decreases-ascends l = length l.points.now

@@ -2,7 +2,7 @@
 
 ghost use Rattle.std.specs.Prelude.{◌≡◌, ◌+◌, ◌<◌, ◌≤◌, true, IfOk};
 ghost use Rattle.test_rank.specs.Ranking.{Ascends};
-ghost use Rattle.report_tests.specs.ThreeTests.{three_rows};
+ghost use Rattle.rank_tests.specs.ThreeTests.{three_rows};
 
 use cov_types::{ByteText, LimitName, Rows};
 use std::alloc::Global;

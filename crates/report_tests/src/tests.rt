@@ -1,3 +1,0 @@
-mod rankings;
-mod reports;
-mod texts;
