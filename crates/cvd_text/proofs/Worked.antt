@@ -249,4 +249,4 @@ leading_zero_is_bad = wrong_piece before_number (a_word (codes "01")) (token (nu
   split = refl;
   awaits = record { design = loop; first = take 4 (design_marks loop); more = drop 5 (design_marks loop); split = refl; fit = refl };
   none = only_number;
-})
+}) tt

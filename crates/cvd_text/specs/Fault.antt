@@ -22,6 +22,15 @@ pub record IsWrong (pieces given : List Piece) (wrong : Piece) (wanted : Mark) :
   pub awaits : Awaits given wanted
   pub none : (other : Mark) → Awaits given other → fits wrong other ≡ false
 
+abbrev pub is_end : Mark → Bool
+is_end (token t) = false
+is_end (line_end stands) = true
+
+-- Where a line ends that may end there, it is its end that is wrong. Behind the words of a key both its end and further words may come.
+abbrev pub EndsFirst : List Piece → Piece → Mark → Type 0
+EndsFirst given (a_word text) wanted = Unit {0}
+EndsFirst given feed wanted = (stands : Bool) → Awaits given (line_end stands) → is_end wanted ≡ true
+
 abbrev pub is_feed : Piece → Bool
 is_feed (a_word text) = false
 is_feed feed = true
@@ -70,7 +79,7 @@ module _ (FlowFault : Type 0) (IsFlowFault : Design → FlowFault → Type 0) wh
     other_version : (p : Piece) (ps : List Piece) → has_name text ≡ true → pieces_of text ≡ p ∷ ps → has_first_line text ≡ false → IsFlaw text (version 0)
     -- The first wrong piece of the lines that line feeds end.
     wrong_piece : (given : List Piece) (wrong : Piece) (wanted : Mark) → has_first_line text ≡ true
-        → IsWrong (pieces_of text) given wrong wanted → IsFlaw text (flaw_at wrong wanted (line_start text given))
+        → IsWrong (pieces_of text) given wrong wanted → EndsFirst given wrong wanted → IsFlaw text (flaw_at wrong wanted (line_start text given))
     -- All of them stand, and more must come.
     cut_off : (wanted : Mark) → has_first_line text ≡ true → Awaits (pieces_of text) wanted → IsFlaw text (truncated (length text))
     -- Bytes follow a design's text.
