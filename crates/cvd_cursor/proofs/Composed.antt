@@ -1,8 +1,9 @@
 -- One value read behind another.
-use Rattle.std.proofs.Common.{◌≡◌, List, [], ◌∷◌, ◌++◌, sym, ◌∙◌, ap}
-use Rattle.cvd_text.specs.Pieces.{Piece, Mark, fits}
-use Rattle.spelling_laws.specs.Spelled.{all_fit, Awaits, NoneFits, ApartAt, Apart, IsWrong}
+use Rattle.std.proofs.Common.{◌≡◌, List, ◌++◌, ◌∙◌}
+use Rattle.cvd_text.specs.Pieces.{Mark, fits}
+use Rattle.spelling_laws.specs.Spelled.{ApartAt, Apart}
 use Rattle.spelling_laws.proofs.Then as after
+use Rattle.spelling_laws.proofs.Via.{read_via, wrong_via}
 use Rattle.cvd_cursor.specs.Places.{Reading}
 use Rattle.cvd_cursor.specs.Reads.{Takes, Stops, Refused}
 use Rattle.cvd_cursor.specs.declared.fault.ReadFault.{ReadFault}
@@ -51,28 +52,12 @@ module _ (A : Type 0) (B : A → Type 0) (sA : A → List Mark) (sB : (a : A) �
 module _ (A B : Type 0) (to : A → B) (from : B → A) (sA : A → List Mark) (sB : B → List Mark) (alike : (b : B) → sB b ≡ sA (from b))
     (alike_to : (a : A) → sB (to a) ≡ sA a) where
   pub takes_as : (old new : Reading) (a : A) → Takes sA old new a → Takes sB old new (to a)
-  takes_as old new a r = record {
-    same = r.same;
-    read = record { given = r.read.given; split = r.read.split; fit = ap (all_fit fits r.read.given) (alike_to a) ∙ r.read.fit };
-  }
-
-  awaits_as : (gs : List Piece) (m : Mark) → Awaits fits sA gs m → Awaits fits sB gs m
-  awaits_as gs m w = record { value = to w.value; first = w.first; more = w.more; split = alike_to w.value ∙ w.split; fit = w.fit }
-
-  awaits_back : (gs : List Piece) (m : Mark) → Awaits fits sB gs m → Awaits fits sA gs m
-  awaits_back gs m w = record { value = from w.value; first = w.first; more = w.more; split = sym (alike w.value) ∙ w.split; fit = w.fit }
-
-  none_as : (gs rest : List Piece) → NoneFits fits sA gs rest → NoneFits fits sB gs rest
-  none_as gs [] h = tt
-  none_as gs (p ∷ rest) h = λ m w. h m (awaits_back gs m w)
-
-  pub wrong_as : (ps rest : List Piece) (m : Mark) → IsWrong fits sA ps m rest → IsWrong fits sB ps m rest
-  wrong_as ps rest m w = record { given = w.given; split = w.split; awaits = awaits_as w.given m w.awaits; none = none_as w.given rest w.none }
+  takes_as old new a r = record { same = r.same; read = read_via fits A B to from sA sB alike alike_to old.rest new.rest a r.read }
 
   pub refused_by : (old new : Reading) (fault : ReadFault) → Refused sA old fault new → Refused sB old fault new
   refused_by old new fault = refused_as sA sB old old new fault (λ f h. record {
     same = h.same;
     wanted = h.wanted;
-    wrong = wrong_as old.rest new.rest h.wanted h.wrong;
+    wrong = wrong_via fits A B to from sA sB alike alike_to old.rest new.rest h.wanted h.wrong;
     kind = h.kind;
   })

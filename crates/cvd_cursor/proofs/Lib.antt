@@ -3,3 +3,4 @@ pub mod Starts
 pub mod Digits
 pub mod Composed
 pub mod Single
+pub mod Lists

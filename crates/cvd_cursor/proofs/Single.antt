@@ -6,6 +6,7 @@ use Rattle.std.proofs.lemmas.Bool.{true≢false}
 use Rattle.cvd_text.specs.Tokens.{Token, token_text, is_numeric}
 use Rattle.cvd_text.specs.Pieces.{Piece, a_word, feed, Mark, token, line_end, fits}
 use Rattle.spelling_laws.specs.Spelled.{all_fit, NoneFits}
+use Rattle.spelling_laws.proofs.Ended.{begins_with}
 use Rattle.spelling_laws.proofs.Fitting.{head_or, both_true}
 use Rattle.cvd_cursor.specs.Places.{Reading, first_word, behind_word}
 use Rattle.cvd_cursor.specs.Reads.{Takes, Stops, Refused, fault_at, fault_of}
@@ -23,8 +24,7 @@ refuses s old new Truncated h = h
 
 -- whether the first piece, if there is one, is a mark
 abbrev pub starts : List Piece → Mark → Bool
-starts [] m = false
-starts (p ∷ ps) m = fits p m
+starts = begins_with fits
 
 module _ {A : Type 0} (mark : A → Mark) where
   abbrev pub single : A → List Mark

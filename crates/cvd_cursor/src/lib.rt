@@ -8,4 +8,5 @@ mod token;
 
 pub use cursor::Cursor;
 pub use fault::ReadFault;
+pub use numeral::{is_numeral, value};
 pub use token::{expect, hex, number, sign};

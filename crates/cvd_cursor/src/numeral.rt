@@ -6,7 +6,7 @@ ghost use Rattle.cvd_cursor.specs.Numerals.{is_digit, is_numeral, value_of, wort
 const MOST: u128 = 1 << 124;
 
 /// Whether a word is a number in a base of at most 16, without leading zeros.
-pub(crate) fn is_numeral(word: &[u8], base: u8) -> bool
+pub fn is_numeral(word: &[u8], base: u8) -> bool
     ensures { result ≡ is_numeral base word.now }
 {
     match word {
@@ -47,7 +47,7 @@ fn worth(byte: u8) -> u8
 }
 
 /// The number that digits of a base spell, unless it is very large.
-pub(crate) fn value(word: &[u8], base: u8) -> Option<u128>
+pub fn value(word: &[u8], base: u8) -> Option<u128>
     requires base { base ≤ 16 }
     requires digits { list_all (is_digit base) word.now ≡ true }
     ensures value { IfSome result (λ value. value ≡ value_of base word.now) }

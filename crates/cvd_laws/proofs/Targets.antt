@@ -44,7 +44,7 @@ pub data Head : Type 0 where
   a_word : Head
   word_part : Head
 
-abbrev head_text : Head → List ℕ
+abbrev pub head_text : Head → List ℕ
 head_text whole = codes "w"
 head_text part = codes "b"
 head_text a_word = codes "m"
@@ -59,28 +59,28 @@ head_back part = refl
 head_back a_word = refl
 head_back word_part = refl
 
-abbrev head_token : Head → Token
+abbrev pub head_token : Head → Token
 head_token h = word (head_text h)
 
-same_heads : (p : List ℕ) (v w : Head) → is_token p (head_token v) ≡ true → is_token p (head_token w) ≡ true → v ≡ w
+pub same_heads : (p : List ℕ) (v w : Head) → is_token p (head_token v) ≡ true → is_token p (head_token w) ≡ true → v ≡ w
 same_heads p v w e f = sym (head_back v) ∙ ap head_of (sym (same_text p (head_text v) e) ∙ same_text p (head_text w) f) ∙ head_back w
 
-abbrev Parts : Head → Type 0
+abbrev pub Parts : Head → Type 0
 Parts whole = ℕ
 Parts part = (v : ℕ) × ((w : ℕ) × Place)
 Parts a_word = (v : ℕ) × Place
 Parts word_part = (v : ℕ) × ((at : Place) × ((w : ℕ) × Place))
 
-abbrev parts_spelled : (h : Head) → Parts h → List Token
+abbrev pub parts_spelled : (h : Head) → Parts h → List Token
 parts_spelled whole v = sNumber v
 parts_spelled part p = sNumber p.0 ++ (sNumber p.1.0 ++ sPlace p.1.1)
 parts_spelled a_word p = sNumber p.0 ++ sPlace p.1
 parts_spelled word_part p = sNumber p.0 ++ (sPlace p.1.0 ++ (sNumber p.1.1.0 ++ sPlace p.1.1.1))
 
-abbrev Whole : Type 0
+abbrev pub Whole : Type 0
 Whole = (h : Head) × Parts h
 
-abbrev whole_spelled : Whole → List Token
+abbrev pub whole_spelled : Whole → List Token
 whole_spelled p = (head_token p.0 ∷ []) ++ parts_spelled p.0 p.1
 
 abbrev made : (h : Head) → Parts h → Target
@@ -92,7 +92,7 @@ made word_part p = target.WordPart p.0 (index_at p.1.0) p.1.1.0 (index_at p.1.1.
 abbrev to : Whole → Target
 to p = made p.0 p.1
 
-abbrev from : Target → Whole
+abbrev pub from : Target → Whole
 from (target.Whole v) = (whole, v)
 from (target.Part v w at) = (part, (v, (w, place_of at)))
 from (target.Word v at) = (a_word, (v, place_of at))
@@ -104,7 +104,7 @@ there (target.Part v w at) = ap (target.Part v w) (index_back at)
 there (target.Word v at) = ap (target.Word v) (index_back at)
 there (target.WordPart v at w low) = ap (λ i. target.WordPart v i w (index_at (place_of low))) (index_back at) ∙ ap (target.WordPart v at w) (index_back low)
 
-alike : (t : Target) → target_tokens t ≡ whole_spelled (from t)
+pub alike : (t : Target) → target_tokens t ≡ whole_spelled (from t)
 alike (target.Whole v) = refl
 alike (target.Part v w at) = ap (λ l. word (codes "b") ∷ number v ∷ number w ∷ l) (position_alike at)
 alike (target.Word v at) = ap (λ l. word (codes "m") ∷ number v ∷ l) (position_alike at)

@@ -1,0 +1,5 @@
+pub mod Counters
+pub mod Rows
+pub mod Keys
+pub mod Sections
+pub mod Whole

@@ -1,0 +1,2 @@
+//! Laws of the text of the sections of design files.
+#![tactic(auto)]

@@ -1,0 +1,2 @@
+//! Laws of where numbers stand in the text of design files.
+#![tactic(auto)]

@@ -1,0 +1,14 @@
+pub mod Standing
+pub mod StepSums
+pub mod Conditions
+pub mod StepHolds
+pub mod StepStands
+pub mod Shapes
+pub mod Processes
+pub mod Measures
+pub mod Ascending
+pub mod Things
+pub mod Entries
+pub mod InputLists
+pub mod Inputs
+pub mod Whole

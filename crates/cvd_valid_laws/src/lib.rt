@@ -1,0 +1,2 @@
+//! Laws of valid designs: they are those of whose text all lines stand.
+#![tactic(auto)]
