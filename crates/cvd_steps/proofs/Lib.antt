@@ -1,0 +1,14 @@
+pub mod Adding
+pub mod EndedLines
+pub mod FirstLines
+pub mod Loads
+pub mod Somes
+pub mod Blocks
+pub mod Choices
+pub mod Listed
+pub mod LineTests
+pub mod ItemTests
+pub mod Held
+pub mod StepWords
+pub mod Borders
+pub mod Turns

@@ -1,0 +1,4 @@
+pub mod Bodies
+pub mod Adding
+pub mod Words
+pub mod Lines

@@ -1,0 +1,9 @@
+pub mod Words
+pub mod Lists
+pub mod Positions
+pub mod TargetForms
+pub mod TargetLists
+pub mod Assignments
+pub mod PieceForms
+pub mod PieceLists
+pub mod ByteTexts

@@ -1,0 +1,27 @@
+use Rattle.std.proofs.Common.{sym, ◌∙◌, ap, subst, arith}
+use Rattle.std.proofs.lemmas.Bool.{true≢false}
+use Rattle.design_tree.specs.declared.step.Piece.TheVariants as piece
+use Rattle.design_meaning.specs.Sizes.{nodes}
+use Rattle.design_meaning.specs.Widths.{width_of}
+use Rattle.cvd_text.specs.Targets.{is_piece}
+use Rattle.cvd_targets.specs.PieceParts.{PieceIn}
+use Rattle.cvd_targets.specs.Positions.{ExpressionIn}
+use Rattle.cvd_targets.proofs.Lists.{both_false}
+use Rattle.cvd_targets.proofs.PieceForms.{value_is, value_few, value_wide, hex_digits_are}
+use Rattle.cvd_targets.proofs.shown.hex_piece.Goals as goal
+
+pub returns-in_default : goal.returns-in_default
+returns-in_default c = λ d e v h. both_false _ _ (subst (ExpressionIn d e) c.in_default.is h)
+
+pub returns-then-not-is_width : goal.returns-then-not-is_width
+returns-then-not-is_width c = λ d e v h.
+    let x = subst (ExpressionIn d e) c.in-Some.is h in
+    absurd (true≢false (sym (value_wide d e c.in-Some.value x v) ∙ sym c.is_width.ensures.value ∙ c.if-not-is_width.true))
+
+pub returns : goal.returns
+returns c = λ d e v h.
+    let x = subst (ExpressionIn d e) c.in-Some.is h in
+    subst (λ t. PieceIn d (piece.Hex c.args.short t) c.finished.result) x.tree_is
+    (c.finished.ensures d (ap (λ t. is_piece d (piece.Hex c.args.short t)) x.tree_is ∙ value_is d e c.in-Some.value x)
+    (x.nodes_are ∙ sym (ap nodes x.tree_is)) (omega (arith, value_few d e c.in-Some.value x, ap nodes x.tree_is))
+    (hex_digits_are d c.in-Some.value.tree c.in-Some.value.width _ c.args.short (x.width_is ∙ sym (ap (width_of d) x.tree_is)) c.hex_digits-shown.ensures.value))
