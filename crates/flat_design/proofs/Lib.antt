@@ -6,5 +6,6 @@ pub mod Within
 pub mod NeedLaws
 pub mod NeedsIn
 pub mod RoomLaws
+pub mod RunWithin
 pub mod UpdateLaws
 pub mod WordLaws

@@ -60,7 +60,7 @@ module _ (d : Design) (k : ℕ) (vars : All IsVariable d.vars) where
   nothing : (ms : List Mention) (o : Outcome ℕ) → o.updates ≡ [] → o.text ≡ [] → o.notes ≡ [] → IsWithin o (room_for d ms)
   nothing ms o a b c = record { updates = rw a (omega arith); bytes = rw b (omega arith); counters = rw c (omega arith) }
 
-  all_within : (xs : List Step) → AllByRecursion Within xs → WithinAll xs
+  pub all_within : (xs : List Step) → AllByRecursion Within xs → WithinAll xs
   all_within [] h s hs ok = record { updates = omega arith; bytes = omega arith; counters = omega arith }
   all_within (x ∷ xs) h s hs ok =
       within_both d (does x s) (all_do xs (does x s).state) (mentions_in x) (flat_map mentions_in xs)

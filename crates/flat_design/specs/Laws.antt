@@ -8,11 +8,16 @@ use Rattle.design_meaning.specs.Steps.{run_of}
 use Rattle.design_meaning.specs.Processes.{process_of}
 use Rattle.design_meaning.specs.RunLaws.{after}
 use Rattle.design_meaning.specs.Valid.{IsValidDesign}
-use Rattle.flat_design.specs.Effects.{HasRoom, empty, room_of, room_of_all}
+use Rattle.flat_design.specs.Effects.{HasRoom, IsWithin, empty, room_of, room_of_all}
 
 -- with the room for one run of each process there is room for one of any
 abbrev pub RoomForEach : Type 0
 RoomForEach = (d : Design) (p : ℕ) → p < length d.processes → HasRoom (empty (room_of_all d)) (room_of d (process_of d p))
+
+-- a run leaves no more than the room of its process
+abbrev pub RunsWithin : Type 0
+RunsWithin = (d : Design) (p : ℕ) (s : State) → IsValidDesign d → IsStateOf d s → p < length d.processes
+    → IsWithin (run_of (process_of d p) s) (room_of d (process_of d p))
 
 -- what a run leaves for later is for variables of the state that it leaves
 abbrev pub UpdatesStand : Type 0

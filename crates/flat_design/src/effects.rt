@@ -141,6 +141,13 @@ impl Effects {
         self.raised.as_slice()
     }
 
+    /// For how many bytes of text there is room.
+    pub fn byte_room(&self) -> usize
+        ensures { result ≡ self.now.room.bytes }
+    {
+        self.byte_room
+    }
+
     pub(crate) fn raise(&mut self, counter: u32)
         requires { length self.old.raised + 1 ≤ self.old.room.counters }
         ensures { self.new ≡ record self.old { raised = self.old.raised ++ counter ∷ [] } }

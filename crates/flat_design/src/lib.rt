@@ -15,5 +15,6 @@ pub use design_tree::{
 };
 pub use effects::Effects;
 pub use laws::runs_stand;
+pub use needs::counter_room;
 pub use process::run_process;
 pub use step_count::Steps;

@@ -5,10 +5,11 @@ ghost use Rattle.design_meaning.specs.States.{IsStateOf};
 ghost use Rattle.design_meaning.specs.WellTyped.{is_piece};
 ghost use Rattle.design_meaning.specs.WellFormed.{is_step};
 ghost use Rattle.design_meaning.specs.Mentions.{piece_length};
+ghost use Rattle.design_meaning.specs.Processes.{process_of};
 ghost use Rattle.design_meaning.specs.Valid.{IsValidDesign};
 ghost use Rattle.design_tree.specs.declared.design.Design.{Design};
 ghost use Rattle.design_tree.specs.declared.step.StepArm.{StepArm};
-ghost use Rattle.flat_design.specs.Effects.{room_for, room_of_all, sum_of};
+ghost use Rattle.flat_design.specs.Effects.{room_for, room_of, room_of_all, sum_of};
 ghost use Rattle.piece_text.specs.Pieces.{IsPieceIn, ArePiecesIn};
 ghost use Rattle.flat_design.specs.InDesign.{mentions_in};
 ghost use Rattle.flat_design.specs.Needed.{room_seen, StepsIn, ArmsIn, arm_mentions_in, arm_at};
@@ -166,4 +167,16 @@ pub(crate) fn design_needs(design: &Design, state: &State) -> Result<Needs, NoMe
         all = both(all, more)?;
     }
     Ok(all)
+}
+
+/// How many counters one run of a process raises at most. A value has its width in every state, so any state of the design will do.
+pub fn counter_room(design: &Design, p: u32, state: &State) -> Result<usize, NoMemory>
+    requires valid { IsValidDesign design.now }
+    requires of_design { IsStateOf design.now state.now }
+    requires process { p < length design.now.processes }
+    ensures { IfOk result (λ n. n ≡ (room_of design.now (process_of design.now p)).counters) }
+{
+    let process = &design.processes.as_slice()[p as usize];
+    let needs = steps_need(process.body.as_slice(), state)?;
+    Ok(needs.counters)
 }

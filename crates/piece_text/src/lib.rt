@@ -4,4 +4,4 @@
 mod digit;
 mod show;
 
-pub use show::{columns_of, hex_digits, put_pieces};
+pub use show::{columns_of, hex_digits, put_hex, put_pieces};

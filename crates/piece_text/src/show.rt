@@ -132,7 +132,7 @@ pub fn hex_digits(width: u8) -> u32
 }
 
 /// Puts a value in hexadecimal, with all digits of its width or in short form.
-fn put_hex(out: &mut Vec<u8>, of: Bits, short: bool)
+pub fn put_hex(out: &mut Vec<u8>, of: Bits, short: bool)
     requires { vec_len out.old + length (spelled short 16 (hex_columns of.width) of.bits) ≤ vec_capacity out.old }
     ensures items { out.new.items ≡ out.old.items ++ spelled short 16 (hex_columns of.width) of.bits }
     ensures capacity { vec_capacity out.old ≤ vec_capacity out.new }

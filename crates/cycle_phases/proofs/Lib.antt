@@ -1,0 +1,4 @@
+pub mod Joined
+pub mod Turning
+pub mod Edge
+pub mod Leave

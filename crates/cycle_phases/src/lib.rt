@@ -1,0 +1,8 @@
+//! The phases of a run in which processes run one after the other: the start, and the edge of the clock.
+#![tactic(auto)]
+
+mod laws;
+mod phase;
+
+pub use laws::edge_runs_in_turn;
+pub use phase::{Phase, run_phase};

@@ -1,0 +1,6 @@
+//! What a run starts from.
+#![tactic(auto)]
+
+mod start;
+
+pub use start::start_state;
