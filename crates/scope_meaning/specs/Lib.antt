@@ -1,0 +1,13 @@
+pub mod Constants
+pub mod Declared
+pub mod Scope
+pub mod Ranges
+pub mod Overrides
+pub mod BlockNames
+pub mod Visits
+pub mod Heads
+pub mod Walk
+pub mod Wanted
+pub mod Standing
+pub mod ScopeRules
+pub mod ScopeTrees
