@@ -27,7 +27,8 @@ no_fault p said old new calm all (store_failed name stores line rose put part) =
 answered : (p : Promise) (said : List ℕ) (old new : World) (ended : Status) → AreDone p old.held
     → IfSome old.held (λ names. (answer : Answer) × p.Answers names answer × IsLeft answer said old new ended) → ended ≡ Done
 answered p said old new ended all is = told old.held all is where
-  told : (held : Option Names) → AreDone p held → IfSome held (λ names. (answer : Answer) × p.Answers names answer × IsLeft answer said old new ended) → ended ≡ Done
+  told : (held : Option Names) → AreDone p held → IfSome held (λ names. (answer : Answer) × p.Answers names answer × IsLeft answer said old new ended)
+      → ended ≡ Done
   told None every one = absurd every
   told (Some names) every one = one.2.status ∙ every one.0 one.1
 

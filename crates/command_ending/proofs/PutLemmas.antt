@@ -32,7 +32,8 @@ pub if_told : (told : Option Names) (P Q : Names → Type 0) → ((names : Names
 if_told None P Q weaker is = tt
 if_told (Some names) P Q weaker is = weaker names is
 
-pub if_told_both : (told : Option Names) (P Q R : Names → Type 0) → ((names : Names) → P names → Q names → R names) → IfSome told P → IfSome told Q → IfSome told R
+pub if_told_both : (told : Option Names) (P Q R : Names → Type 0) → ((names : Names) → P names → Q names → R names) → IfSome told P → IfSome told Q
+    → IfSome told R
 if_told_both None P Q R weaker is also = tt
 if_told_both (Some names) P Q R weaker is also = weaker names is also
 

@@ -1,5 +1,5 @@
 -- What a command leaves that stops while it reads.
-use Rattle.std.proofs.Common.{◌≡◌, ℕ, List, refl, ap, subst, true, false, Bool, Option}
+use Rattle.std.proofs.Common.{◌≡◌, ℕ, List, refl, ap, subst, inl, true, false, Bool, Option}
 use Rattle.std.specs.Prelude.{IfSome}
 use Rattle.cov_port.specs.Files.{Names, FileFaults}
 use Rattle.command_ending.specs.Answer.{Answer, refused_with, absent}
@@ -30,9 +30,9 @@ line_of R Limit line is r = r
 line_of R NoMemory line is r = absurd (cc)
 line_of R Stopped line is r = r
 
-stops_before : (p : Promise) (early : Bool) (old new : World) → early ≡ false → IsUntouched old new → StopsBefore early p old new
-stops_before p true old new is same = absurd (cc)
-stops_before p false old new is same = same
+stops_before : (p : Promise) (early : Bool) (old new : World) → IsUntouched old new → StopsBefore early p old new
+stops_before p true old new same = inl same
+stops_before p false old new same = same
 
 -- an answer that is a refusal, where nothing has changed
 left_refused : (p : Promise) (status : Status) (said : List ℕ) (told new : Option Names) (before now : FileFaults) (written : Option (List ℕ)) (put_faults : ℕ) → new ≡ told
@@ -41,44 +41,50 @@ left_refused : (p : Promise) (status : Status) (said : List ℕ) (told new : Opt
 left_refused p status said told new before now written put_faults same is =
     if_told told _ _ (λ names one. (refused_with status said, one, record { status = refl; stores = stores_none told new same; output = puts_none written written refl; line = refl })) is
 
--- what a command leaves that stops while it reads
-pub stops_leave : (p : Promise) (told new : Option Names) (before now : FileFaults) (written : Option (List ℕ)) (put_faults : ℕ) (e : Ending) → p.prints_early ≡ false → new ≡ told
+-- what a command leaves that stops before it has put or stored anything
+pub stopping_leaves : (p : Promise) (told new : Option Names) (before now : FileFaults) (written : Option (List ℕ)) (put_faults : ℕ) (e : Ending) → new ≡ told
     → Stops p told before now e → Leaves p (line_at e) (world told before written put_faults) (world new now written put_faults) (status_at e)
-stops_leave p told new before now written put_faults e late same (wants_memory quiet) = record {
+stopping_leaves p told new before now written put_faults e same (wants_memory quiet) = record {
   answer = λ no_fault_is no_want_is. absurd (no_want_is refl);
   unharmed = λ other. record { files = quiet; out = refl };
   fault = λ never. absurd (cc);
   untouched = λ first. record { held = same; written = refl };
   line = refl;
 }
-stops_leave p told new before now written put_faults e late same (lacks_name name line reads is quiet lacking) = record {
+stopping_leaves p told new before now written put_faults e same (lacks_name name line reads is quiet lacking) = record {
   answer = λ other. absurd (other refl);
   unharmed = λ other. absurd (other refl);
   fault = λ so. no_such_name name reads is (record { files = quiet; out = refl }) (record { held = same; written = refl }) lacking;
   untouched = λ first. record { held = same; written = refl };
   line = tt;
 }
-stops_leave p told new before now written put_faults e late same (cannot_open name line reads is rose) = record {
+stopping_leaves p told new before now written put_faults e same (cannot_open name line reads is rose) = record {
   answer = λ other. absurd (other refl);
   unharmed = λ other. absurd (other refl);
-  fault = λ so. open_failed name reads is rose refl (stops_before p p.prints_early _ _ late (record { held = same; written = refl }));
+  fault = λ so. open_failed name reads is rose refl (stops_before p p.prints_early _ _ (record { held = same; written = refl }));
   untouched = λ first. record { held = same; written = refl };
   line = tt;
 }
-stops_leave p told new before now written put_faults e late same (cannot_read name line reads is rose) = record {
+stopping_leaves p told new before now written put_faults e same (cannot_read name line reads is rose) = record {
   answer = λ other. absurd (other refl);
   unharmed = λ other. absurd (other refl);
-  fault = λ so. read_failed name reads is rose refl (stops_before p p.prints_early _ _ late (record { held = same; written = refl }));
+  fault = λ so. read_failed name reads is rose refl (stops_before p p.prints_early _ _ (record { held = same; written = refl }));
   untouched = λ first. record { held = same; written = refl };
   line = tt;
 }
-stops_leave p told new before now written put_faults e late same (refuses status line refusal may quiet is) = record {
+stopping_leaves p told new before now written put_faults e same (refuses status line refusal may quiet is) = record {
   answer = λ no_fault_is no_want_is. left_refused p status line told new before now written put_faults same is;
   unharmed = λ other. record { files = quiet; out = refl };
   fault = λ so. absurd (no_fault status refusal so);
   untouched = λ first. record { held = same; written = refl };
   line = line_of p.Refuses status line refusal may;
 }
+
+-- the same of one that prints when all is read
+pub stops_leave : (p : Promise) (told new : Option Names) (before now : FileFaults) (written : Option (List ℕ)) (put_faults : ℕ) (e : Ending)
+    → p.prints_early ≡ false → new ≡ told
+    → Stops p told before now e → Leaves p (line_at e) (world told before written put_faults) (world new now written put_faults) (status_at e)
+stops_leave p told new before now written put_faults e late same is = stopping_leaves p told new before now written put_faults e same is
 
 -- a command that does a part of another stops for reasons of the other
 pub stops_weaker : (p q : Promise) (told : Option Names) (before now : FileFaults) (e : Ending) → ((name : List ℕ) → p.Reads name → q.Reads name)
@@ -87,15 +93,18 @@ pub stops_weaker : (p q : Promise) (told : Option Names) (before now : FileFault
 stops_weaker p q told before now e reads refuse answers (wants_memory quiet) = wants_memory quiet
 stops_weaker p q told before now e reads refuse answers (lacks_name name line is_read is quiet lacking) =
     lacks_name name line (reads name is_read) is quiet
-    (and_told told _ _ (if_told told (λ held. (answer : Answer) → p.Answers held answer → q.Answers held answer) _ (λ held all. all (absent name)) answers) lacking)
+    (and_told told _ _ (if_told told (λ held. (answer : Answer) → p.Answers held answer
+    → q.Answers held answer) _ (λ held all. all (absent name)) answers) lacking)
 stops_weaker p q told before now e reads refuse answers (cannot_open name line is_read is rose) = cannot_open name line (reads name is_read) is rose
 stops_weaker p q told before now e reads refuse answers (cannot_read name line is_read is rose) = cannot_read name line (reads name is_read) is rose
 stops_weaker p q told before now e reads refuse answers (refuses status line refusal may quiet is) =
     refuses status line refusal (refuse status line may) quiet
-    (if_told_both told (λ held. (answer : Answer) → p.Answers held answer → q.Answers held answer) _ _ (λ held all one. all (refused_with status line) one) answers is)
+    (if_told_both told (λ held. (answer : Answer) → p.Answers held answer
+    → q.Answers held answer) _ _ (λ held all one. all (refused_with status line) one) answers is)
 
 -- the same behind calls that changed no number
-pub stops_behind : (p : Promise) (told : Option Names) (first before now : FileFaults) (e : Ending) → before ≡ first → Stops p told before now e → Stops p told first now e
+pub stops_behind : (p : Promise) (told : Option Names) (first before now : FileFaults) (e : Ending) → before ≡ first → Stops p told before now e
+    → Stops p told first now e
 stops_behind p told first before now e same is = subst (λ (f : FileFaults). Stops p told f now e) same is
 
 -- a refusal for a reason is one for what follows from it

@@ -1,5 +1,6 @@
 -- Stores that are made one after the other.
-use Rattle.std.proofs.Common.{◌≡◌, ℕ, suc, ◌+◌, ◌<◌, List, [], ◌∷◌, ◌++◌, length, get_or, take, drop, map, refl, sym, ◌∙◌, ap, subst, cond, inl, inr, Option, None, Some}
+use Rattle.std.proofs.Common.{◌≡◌, ℕ, suc, ◌+◌, ◌<◌, List, [], ◌∷◌, ◌++◌, length, get_or, take, drop, map, refl, sym, ◌∙◌, ap, subst, cond, inl, inr, Option}
+use Rattle.std.proofs.Common.{None, Some}
 use Rattle.std.specs.Prelude.{Contains}
 use Rattle.std.specs.Str.{bytes_eq}
 use Rattle.std.proofs.Math.Seq.{split_at}
@@ -17,14 +18,17 @@ abbrev pub no_file : File
 no_file = ([], [])
 
 -- what the names hold after one store more
-after_more : (made : List File) (s : File) (old : Names) (q : List ℕ) → after_stores (made ++ s ∷ []) old q ≡ cond (bytes_eq q s.0) (Some s.1) (after_stores made old q)
+after_more : (made : List File) (s : File) (old : Names) (q : List ℕ)
+    → after_stores (made ++ s ∷ []) old q ≡ cond (bytes_eq q s.0) (Some s.1) (after_stores made old q)
 after_more [] s old q = refl
 after_more (m ∷ made) s old q = after_more made s (λ r. cond (bytes_eq r m.0) (Some m.1) (old r)) q
 
 made_more : (made : List File) (s : File) (old mid new : Names) → StoresAll made old mid → Stores s.0 s.1 mid new → StoresAll (made ++ s ∷ []) old new
-made_more made s old mid new before now = λ q. now q ∙ ap (λ (o : Option (List ℕ)). cond (bytes_eq q s.0) (Some s.1) o) (before q) ∙ sym (after_more made s old q)
+made_more made s old mid new before now = λ q. now q ∙ ap (λ (o : Option (List ℕ)). cond (bytes_eq q s.0) (Some s.1) o) (before q)
+    ∙ sym (after_more made s old q)
 
-both_more : (made : List File) (s : File) (old mid new : Option Names) → Both (StoresAll made) old mid → Both (Stores s.0 s.1) mid new → Both (StoresAll (made ++ s ∷ [])) old new
+both_more : (made : List File) (s : File) (old mid new : Option Names) → Both (StoresAll made) old mid → Both (Stores s.0 s.1) mid new
+    → Both (StoresAll (made ++ s ∷ [])) old new
 both_more made s None None None before now = tt
 both_more made s None None (Some n) before now = now
 both_more made s None (Some m) new before now = absurd before
@@ -33,12 +37,14 @@ both_more made s (Some o) (Some m) None before now = now
 both_more made s (Some o) (Some m) (Some n) before now = made_more made s o m n before now
 
 -- one store more of a list
-pub stored_more : (stores : List File) (i : ℕ) (name bytes : List ℕ) (old mid new : Option Names) → i < length stores → name ≡ (get_or stores i no_file).0 → bytes ≡ (get_or stores i no_file).1
+pub stored_more : (stores : List File) (i : ℕ) (name bytes : List ℕ) (old mid new : Option Names) → i < length stores → name ≡ (get_or stores i no_file).0
+    → bytes ≡ (get_or stores i no_file).1
     → Both (StoresAll (take i stores)) old mid → Both (Stores name bytes) mid new → Both (StoresAll (take (i + 1) stores)) old new
 stored_more stores i name bytes old mid new within is_name is_bytes before now =
     rw (take_more stores i no_file within) (both_more (take i stores) (get_or stores i no_file) old mid new before (rw (sym is_name, sym is_bytes) now))
 
-part_of : (made : List File) (name bytes : List ℕ) (old mid new : Names) → StoresAll made old mid → StoresPart name bytes mid new → StoresPart name bytes (after_stores made old) new
+part_of : (made : List File) (name bytes : List ℕ) (old mid new : Names) → StoresAll made old mid → StoresPart name bytes mid new
+    → StoresPart name bytes (after_stores made old) new
 part_of made name bytes old mid new before part =
     (λ q other. part.0 q other ∙ before q, elim part.1 [ inl kept ↦ inl (kept ∙ before name) | inr front ↦ inr front ])
 
@@ -62,7 +68,8 @@ both_front stores i (Some o) (Some m) None within before part = part
 both_front stores i (Some o) (Some m) (Some n) within before part = front_of stores i o m n within before part
 
 -- the stores of a list up to one that failed
-pub stored_front : (stores : List File) (i : ℕ) (name bytes : List ℕ) (old mid new : Option Names) → i < length stores → name ≡ (get_or stores i no_file).0 → bytes ≡ (get_or stores i no_file).1
+pub stored_front : (stores : List File) (i : ℕ) (name bytes : List ℕ) (old mid new : Option Names) → i < length stores → name ≡ (get_or stores i no_file).0
+    → bytes ≡ (get_or stores i no_file).1
     → Both (StoresAll (take i stores)) old mid → Both (StoresPart name bytes) mid new → Both (StoresFront (get_or stores i no_file).0 stores) old new
 stored_front stores i name bytes old mid new within is_name is_bytes before part = both_front stores i old mid new within before (rw (sym is_name, sym is_bytes) part)
 

@@ -13,6 +13,10 @@ pub record Answer : Type 0 where
   pub line : List ℕ
   pub stores : List (List ℕ × List ℕ)
 
+-- a refusal with this line, behind what was printed before; nothing is stored
+abbrev pub refused_behind : List ℕ → Status → List ℕ → Answer
+refused_behind out status line = record { status = status; out = out; line = line; stores = [] }
+
 -- nothing but a refusal, with this line
 abbrev pub refused_with : Status → List ℕ → Answer
 refused_with status line = record { status = status; out = []; line = line; stores = [] }

@@ -43,3 +43,11 @@ design_line name place code =
 -- `BadData: FILE:LINE: CODE`
 abbrev pub data_line : List ℕ → ℕ → List ℕ → List ℕ
 data_line name n code = error_line (codes "BadData: " ++ name ++ codes ":" ++ decimal n ++ codes ": " ++ code)
+
+-- `BadData: FILE@BYTE: CODE`
+abbrev pub byte_line : List ℕ → ℕ → List ℕ → List ℕ
+byte_line name n code = error_line (codes "BadData: " ++ name ++ codes "@" ++ decimal n ++ codes ": " ++ code)
+
+-- `BadStimulus: FILE:LINE: CODE`
+abbrev pub stimulus_line : List ℕ → ℕ → List ℕ → List ℕ
+stimulus_line name n code = error_line (codes "BadStimulus: " ++ name ++ codes ":" ++ decimal n ++ codes ": " ++ code)

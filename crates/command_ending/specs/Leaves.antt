@@ -1,5 +1,5 @@
 -- What a command leaves.
-use Rattle.std.specs.Prelude.{◌≡◌, ℕ, Bool, true, false, List, Option, IfSome, IsSomeAnd}
+use Rattle.std.specs.Prelude.{◌≡◌, ◌⊎◌, ℕ, Bool, true, false, List, Option, IfSome, IsSomeAnd}
 use Rattle.cov_port.specs.Causes.{Rose, IsQuiet, Both}
 use Rattle.cov_port.specs.Files.{OpensRose, ReadsRose, StoresRose}
 use Rattle.cov_port.specs.Sinks.{PutsAll, PutsPart}
@@ -22,11 +22,11 @@ pub record HasPutPart (p : Promise) (old new : World) : Type 0 where
   pub held : new.held ≡ old.held
   pub out : IfSome old.held (λ names. (answer : Answer) × p.Answers names answer × Both (PutsPart answer.out) old.written new.written)
 
--- A file could not be opened or read: nothing was stored and nothing put out, but that a command which prints
--- before all is read has put a part of an answer's output.
+-- A file could not be opened or read: nothing was stored and nothing put out, or, by a command that prints before all is
+-- read, a part of an answer's output was.
 abbrev pub StopsBefore : Bool → Promise → World → World → Type 0
 StopsBefore false p old new = IsUntouched old new
-StopsBefore true p old new = HasPutPart p old new
+StopsBefore true p old new = IsUntouched old new ⊎ HasPutPart p old new
 
 -- The output of an answer is there whole, and its stores up to the one at this name, which failed.
 pub record HasStoredPart (p : Promise) (name : List ℕ) (old new : World) : Type 0 where

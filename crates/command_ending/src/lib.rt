@@ -10,7 +10,7 @@ mod stores;
 
 pub use ending::Ending;
 pub use inputs::{are_too_many, open_input, take_input};
-pub use lines::append_number;
-pub use refusal::{bad_data, bad_design, over_limit};
+pub use lines::{append_number, limit_line, read_line, store_line};
+pub use refusal::{bad_data, bad_design, bad_design_file, over_limit};
 pub use status::Status;
 pub use stores::{Store, finish};

@@ -8,7 +8,7 @@ use itoa::Buffer;
 use std::alloc::Global;
 
 /// The line of a limit that is passed.
-pub(crate) fn limit_line(alloc: Global, name: LimitName) -> Result<ByteText, NoMemory>
+pub fn limit_line(alloc: Global, name: LimitName) -> Result<ByteText, NoMemory>
     ensures { IfOk result (λ line. line ≡ spec.limit_line name) }
 {
     let mut line = ByteText::from_slice(alloc, b"vcov: Limit: ")?;
@@ -27,14 +27,14 @@ pub(crate) fn open_line(alloc: Global, name: &str) -> Result<ByteText, NoMemory>
 }
 
 /// The line of a file that can't be read.
-pub(crate) fn read_line(alloc: Global, name: &str) -> Result<ByteText, NoMemory>
+pub fn read_line(alloc: Global, name: &str) -> Result<ByteText, NoMemory>
     ensures { IfOk result (λ line. line ≡ spec.read_line name.now) }
 {
     named_line(alloc, b"vcov: Fault: read ", name)
 }
 
 /// The line of a file that can't be stored.
-pub(crate) fn store_line(alloc: Global, name: &str) -> Result<ByteText, NoMemory>
+pub fn store_line(alloc: Global, name: &str) -> Result<ByteText, NoMemory>
     ensures { IfOk result (λ line. line ≡ spec.store_line name.now) }
 {
     named_line(alloc, b"vcov: Fault: store ", name)
@@ -83,6 +83,25 @@ pub(crate) fn data_line(
     let mut line = ByteText::from_slice(alloc, b"vcov: BadData: ")?;
     line.append(name.as_bytes())?;
     line.append(b":")?;
+    append_number(&mut line, number.into())?;
+    line.append(b": ")?;
+    line.append(code)?;
+    line.append(b"\n")?;
+    Ok(line)
+}
+
+/// The line of a design file that is refused at a byte, with a code.
+pub(crate) fn byte_line(
+    alloc: Global,
+    name: &str,
+    number: u64,
+    code: &[u8],
+) -> Result<ByteText, NoMemory>
+    ensures { IfOk result (λ line. line ≡ spec.byte_line name.now number code.now) }
+{
+    let mut line = ByteText::from_slice(alloc, b"vcov: BadData: ")?;
+    line.append(name.as_bytes())?;
+    line.append(b"@")?;
     append_number(&mut line, number.into())?;
     line.append(b": ")?;
     line.append(code)?;

@@ -1,5 +1,6 @@
 -- The first field of a line.
-use Rattle.std.proofs.Common.{◌≡◌, ℕ, ◌+◌, ◌-◌, ◌<◌, ◌≤◌, Bool, true, false, cond, not, suc, List, [], ◌∷◌, length, take, drop, filter, refl, sym, ◌∙◌, ap, arith}
+use Rattle.std.proofs.Common.{◌≡◌, ℕ, ◌+◌, ◌-◌, ◌<◌, ◌≤◌, Bool, true, false, cond, not, suc, List, [], ◌∷◌, length, take, drop, filter, refl, sym, ◌∙◌, ap}
+use Rattle.std.proofs.Common.{arith}
 use Rattle.std.proofs.lemmas.List.{take_rest}
 use Rattle.std.specs.List.{prefix_len, slice_split}
 use Rattle.stim_lines.specs.Fields.{fields_of, is_blank, is_field_byte, is_not_empty}
@@ -12,7 +13,8 @@ pub blanks-dropped : (s : List ℕ) → fields_of (drop (prefix_len is_blank s) 
 blanks-dropped [] = refl
 blanks-dropped (x ∷ xs) = by (blanks-dropped xs) (is_blank x) refl
   where
-    by : fields_of (drop (prefix_len is_blank xs) xs) ≡ fields_of xs → (t : Bool) → is_blank x ≡ t → fields_of (drop (cond t (1 + prefix_len is_blank xs) 0) (x ∷ xs)) ≡ fields_of (x ∷ xs)
+    by : fields_of (drop (prefix_len is_blank xs) xs) ≡ fields_of xs → (t : Bool) → is_blank x ≡ t
+        → fields_of (drop (cond t (1 + prefix_len is_blank xs) 0) (x ∷ xs)) ≡ fields_of (x ∷ xs)
     by more true e = let one : 1 + prefix_len is_blank xs ≡ suc (prefix_len is_blank xs) = omega arith in rw one (more ∙ sym (blank-first x xs e))
     by more false e = refl
 
@@ -37,7 +39,8 @@ fields-behind [] = refl
 fields-behind (x ∷ xs) = by (fields-behind xs) (is_blank x) refl
   where
     by : filter is_not_empty (behind (drop (prefix_len is_field_byte xs) xs)) ≡ fields_of (drop (prefix_len is_field_byte xs) xs) → (t : Bool) → is_blank x ≡ t
-        → filter is_not_empty (behind (drop (cond (not t) (1 + prefix_len is_field_byte xs) 0) (x ∷ xs))) ≡ fields_of (drop (cond (not t) (1 + prefix_len is_field_byte xs) 0) (x ∷ xs))
+        → filter is_not_empty (behind (drop (cond (not t) (1 + prefix_len is_field_byte xs) 0) (x ∷ xs)))
+        ≡ fields_of (drop (cond (not t) (1 + prefix_len is_field_byte xs) 0) (x ∷ xs))
     by more true e = sym (blank-first x xs e)
     by more false e = let one : 1 + prefix_len is_field_byte xs ≡ suc (prefix_len is_field_byte xs) = omega arith in rw one more
 
@@ -62,7 +65,8 @@ no-blank : (s : List ℕ) → begins_blank (drop (prefix_len is_blank s) s) ≡ 
 no-blank [] = refl
 no-blank (x ∷ xs) = by (no-blank xs) (is_blank x) refl
   where
-    by : begins_blank (drop (prefix_len is_blank xs) xs) ≡ false → (t : Bool) → is_blank x ≡ t → begins_blank (drop (cond t (1 + prefix_len is_blank xs) 0) (x ∷ xs)) ≡ false
+    by : begins_blank (drop (prefix_len is_blank xs) xs) ≡ false → (t : Bool) → is_blank x ≡ t
+        → begins_blank (drop (cond t (1 + prefix_len is_blank xs) 0) (x ∷ xs)) ≡ false
     by more true e = let one : 1 + prefix_len is_blank xs ≡ suc (prefix_len is_blank xs) = omega arith in rw one more
     by more false e = e
 
@@ -81,7 +85,8 @@ no-field s b n e f z =
     ∙ empty-fields (drop (prefix_len is_blank s) s) (sym (ap (prefix_len is_field_byte) (rest_is s b e)) ∙ sym f ∙ z) (no-blank s)
 
 -- the first field of a line, and the fields of what follows
-pub field-taken : (s : List ℕ) (b n : ℕ) → b ≡ prefix_len is_blank s → n ≡ prefix_len is_field_byte (take (length s - b) (drop b s)) → n ≤ length (take (length s - b) (drop b s)) → 0 < n
+pub field-taken : (s : List ℕ) (b n : ℕ) → b ≡ prefix_len is_blank s → n ≡ prefix_len is_field_byte (take (length s - b) (drop b s))
+    → n ≤ length (take (length s - b) (drop b s)) → 0 < n
     → fields_of s ≡ take n (take (length s - b) (drop b s)) ∷ fields_of (take (length (take (length s - b) (drop b s)) - n) (drop n (take (length s - b) (drop b s))))
 field-taken s b n e f within some =
     sym (blanks-dropped s)

@@ -16,7 +16,8 @@ use Rattle.stim_lines.specs.declared.layout.Layout.{Layout}
 use Rattle.stim_lines.specs.declared.row.Row.{Row}
 
 -- the fault of values by the widths of their columns
-cells-named : (inputs : List Input) (n : ℕ) (header values : List (List ℕ)) → cells_fault n (zip (map (width_of inputs) header) values) ≡ values_fault inputs n (zip header values)
+cells-named : (inputs : List Input) (n : ℕ) (header values : List (List ℕ))
+    → cells_fault n (zip (map (width_of inputs) header) values) ≡ values_fault inputs n (zip header values)
 cells-named inputs n [] values = refl
 cells-named inputs n (name ∷ names) [] = refl
 cells-named inputs n (name ∷ names) (v ∷ vs) = ap (or_else (value_fault inputs n (name, v))) (cells-named inputs n names vs)
@@ -55,7 +56,8 @@ rows-agree f g r s same row cycles (spoken n fields ∷ rest) = by (rows-agree f
     by more None e = rw (same n fields, e, row n fields e) (ap (row_then cycles n (s fields)) more)
     by more (Some fault) e = rw (same n fields, e) refl
 
-same-fault : (inputs : List Input) (header : List (List ℕ)) (n : ℕ) (fields : List (List ℕ)) → laid_fault (layout_of inputs header).widths n fields ≡ row_fault inputs header n fields
+same-fault : (inputs : List Input) (header : List (List ℕ)) (n : ℕ) (fields : List (List ℕ))
+    → laid_fault (layout_of inputs header).widths n fields ≡ row_fault inputs header n fields
 same-fault inputs header n fields = rw (length-map header (width_of inputs), cells-named inputs n header (value_fields fields)) refl
 
 -- what goes before and behind where there is no fault
@@ -72,14 +74,16 @@ test-passed true a e = refl
 test-passed false a e = absurd (cc)
 
 -- a row without fault has a value for each column
-count-right : (inputs : List Input) (header : List (List ℕ)) (n : ℕ) (fields : List (List ℕ)) → row_fault inputs header n fields ≡ None → length (value_fields fields) ≡ length header
+count-right : (inputs : List Input) (header : List (List ℕ)) (n : ℕ) (fields : List (List ℕ)) → row_fault inputs header n fields ≡ None
+    → length (value_fields fields) ≡ length header
 count-right inputs header n fields e =
     let behind = none-second (option_map_or (λ (cycles : ℕ). None) (cycles_of fields) (Some (BadRepeat n)))
     (or_else (cond (length (value_fields fields) == length header) None (Some (WrongCount n))) (values_fault inputs n (zip header (value_fields fields)))) e in
     let counted = none-first (cond (length (value_fields fields) == length header) None (Some (WrongCount n))) (values_fault inputs n (zip header (value_fields fields))) behind in
     eqb-true (length (value_fields fields)) (length header) (test-passed (length (value_fields fields) == length header) (WrongCount n) counted)
 
-same-row : (inputs : List Input) (header : List (List ℕ)) (n : ℕ) (fields : List (List ℕ)) → row_fault inputs header n fields ≡ None → laid_row (layout_of inputs header) fields ≡ row_of inputs header fields
+same-row : (inputs : List Input) (header : List (List ℕ)) (n : ℕ) (fields : List (List ℕ)) → row_fault inputs header n fields ≡ None
+    → laid_row (layout_of inputs header) fields ≡ row_of inputs header fields
 same-row inputs header n fields e = rw (values-named inputs header (value_fields fields) (count-right inputs header n fields e)) refl
 
 pub lays_out : (inputs : List Input) (header : List (List ℕ)) → LaysOut (layout_of inputs header) inputs header

@@ -11,21 +11,25 @@ use Rattle.stim_lines.specs.Layouts.{column_of}
 use Rattle.stim_lines.specs.RowLines.{width_of}
 
 -- the names of inputs
-pub names-any : (vars : List Var) (inputs : List design.Input) (field : List ℕ) → list_any (λ (i : design.Input). bytes_eq field i.name) inputs ≡ is_among (names_of (map (input_of vars) inputs)) field
+pub names-any : (vars : List Var) (inputs : List design.Input) (field : List ℕ)
+    → list_any (λ (i : design.Input). bytes_eq field i.name) inputs ≡ is_among (names_of (map (input_of vars) inputs)) field
 names-any vars [] field = refl
 names-any vars (i ∷ is) field = ap (λ (t : Bool). bytes_eq field i.name || t) (names-any vars is field)
 
-pub names-all : (vars : List Var) (inputs : List design.Input) (fields : List (List ℕ)) → list_all (λ (i : design.Input). is_among fields i.name) inputs ≡ list_all (is_among fields) (names_of (map (input_of vars) inputs))
+pub names-all : (vars : List Var) (inputs : List design.Input) (fields : List (List ℕ))
+    → list_all (λ (i : design.Input). is_among fields i.name) inputs ≡ list_all (is_among fields) (names_of (map (input_of vars) inputs))
 names-all vars [] fields = refl
 names-all vars (i ∷ is) fields = ap (λ (t : Bool). is_among fields i.name && t) (names-all vars is fields)
 
 -- the first input with a name
 pub width-found : (vars : List Var) (inputs : List design.Input) (name : List ℕ)
-    → width_of (map (input_of vars) inputs) name ≡ option_map_or (λ (i : design.Input). (input_of vars i).width) (find (λ (i : design.Input). bytes_eq i.name name) inputs) 0
+    → width_of (map (input_of vars) inputs) name
+    ≡ option_map_or (λ (i : design.Input). (input_of vars i).width) (find (λ (i : design.Input). bytes_eq i.name name) inputs) 0
 width-found vars [] name = refl
 width-found vars (i ∷ is) name = by (width-found vars is name) (bytes_eq i.name name)
   where
-    by : width_of (map (input_of vars) is) name ≡ option_map_or (λ (j : design.Input). (input_of vars j).width) (find (λ (j : design.Input). bytes_eq j.name name) is) 0 → (t : Bool)
+    by : width_of (map (input_of vars) is) name
+        ≡ option_map_or (λ (j : design.Input). (input_of vars j).width) (find (λ (j : design.Input). bytes_eq j.name name) is) 0 → (t : Bool)
         → option_map_or (λ (j : Input). j.width) (cond t (Some (input_of vars i)) (find (λ (j : Input). bytes_eq j.name name) (map (input_of vars) is))) 0
         ≡ option_map_or (λ (j : design.Input). (input_of vars j).width) (cond t (Some i) (find (λ (j : design.Input). bytes_eq j.name name) is)) 0
     by more true = refl
@@ -51,12 +55,15 @@ columns-named vars [] fields = refl
 columns-named vars (i ∷ is) fields = ap (λ (ns : List ℕ). column_of fields i.name ∷ ns) (columns-named vars is fields)
 
 -- the width of the input that was found
-pub width-here : (vars : List Var) (inputs : List design.Input) (name : List ℕ) (found : Option design.Input) → found ≡ find (λ (i : design.Input). bytes_eq i.name name) inputs
+pub width-here : (vars : List Var) (inputs : List design.Input) (name : List ℕ) (found : Option design.Input)
+    → found ≡ find (λ (i : design.Input). bytes_eq i.name name) inputs
     → width_of (map (input_of vars) inputs) name ≡ option_map_or (λ (i : design.Input). (input_of vars i).width) found 0
-width-here vars inputs name found e = width-found vars inputs name ∙ ap (λ (o : Option design.Input). option_map_or (λ (i : design.Input). (input_of vars i).width) o 0) (sym e)
+width-here vars inputs name found e = width-found vars inputs name
+    ∙ ap (λ (o : Option design.Input). option_map_or (λ (i : design.Input). (input_of vars i).width) o 0) (sym e)
 
 -- a field that names an input, and none that an earlier field names
 pub fields-step : (inputs : List Input) (n k : ℕ) (fields rest more : List (List ℕ)) (field : List ℕ) → rest ≡ field ∷ more → drop k fields ≡ rest
-    → is_among (names_of inputs) field ≡ true → is_among (take k fields) field ≡ false → fields_fault inputs n (take (k + 1) fields) more ≡ fields_fault inputs n (take k fields) rest
+    → is_among (names_of inputs) field ≡ true → is_among (take k fields) field ≡ false
+    → fields_fault inputs n (take (k + 1) fields) more ≡ fields_fault inputs n (take k fields) rest
 fields-step inputs n k fields rest more field e d known fresh =
     let one : k + 1 ≡ suc k = omega arith in rw (one, taken-more k fields field more (d ∙ e), e, known, fresh) refl

@@ -26,11 +26,13 @@ other-text a b ne = by (bytes_eq a b) refl
     by false e = e
 
 -- the width of the column of a name
-width-at : (inputs : List Input) (header : List (List ℕ)) (name : List ℕ) → is_among header name ≡ true → slice_index (map (width_of inputs) header) (column_of header name) ≡ width_of inputs name
+width-at : (inputs : List Input) (header : List (List ℕ)) (name : List ℕ) → is_among header name ≡ true
+    → slice_index (map (width_of inputs) header) (column_of header name) ≡ width_of inputs name
 width-at inputs [] name e = absurd (cc)
 width-at inputs (h ∷ hs) name e = by (λ more. width-at inputs hs name more) (bytes_eq h name) refl
   where
-    by : (is_among hs name ≡ true → slice_index (map (width_of inputs) hs) (column_of hs name) ≡ width_of inputs name) → (t : Bool) → bytes_eq h name ≡ t → slice_index (map (width_of inputs) (h ∷ hs)) (cond (not t) (1 + column_of hs name) 0) ≡ width_of inputs name
+    by : (is_among hs name ≡ true → slice_index (map (width_of inputs) hs) (column_of hs name) ≡ width_of inputs name) → (t : Bool) → bytes_eq h name ≡ t
+        → slice_index (map (width_of inputs) (h ∷ hs)) (cond (not t) (1 + column_of hs name) 0) ≡ width_of inputs name
     by rest true same = ap (width_of inputs) (same-text h name same)
     by rest false other =
         let one : 1 + column_of hs name ≡ suc (column_of hs name) = omega arith in
@@ -55,8 +57,10 @@ widths-at inputs (i ∷ is) header e =
     rw (width-at inputs header i.name first, widths-at inputs is header rest) refl
 
 -- an input with another name doesn't count
-others : (vars : List Var) (d : design.Input) (rest js : List design.Input) → ((k : ℕ) (e : design.Input) → k < length js → d.name ≢ (slice_index_or js k e).name)
-    → map (λ (i : Input). width_of (input_of vars d ∷ map (input_of vars) rest) i.name) (map (input_of vars) js) ≡ map (λ (i : Input). width_of (map (input_of vars) rest) i.name) (map (input_of vars) js)
+others : (vars : List Var) (d : design.Input) (rest js : List design.Input) → ((k : ℕ) (e : design.Input) → k < length js
+    → d.name ≢ (slice_index_or js k e).name)
+    → map (λ (i : Input). width_of (input_of vars d ∷ map (input_of vars) rest) i.name) (map (input_of vars) js)
+    ≡ map (λ (i : Input). width_of (map (input_of vars) rest) i.name) (map (input_of vars) js)
 others vars d rest [] differ = refl
 others vars d rest (j ∷ js) differ =
     let one : bytes_eq d.name j.name ≡ false = other-text d.name j.name (differ 0 d (omega arith)) in
@@ -73,10 +77,12 @@ own-widths vars (d ∷ ds) differ =
     ) refl
 
 -- where a header has no fault, it names each input
-pub all-named : (inputs : List Input) (n : ℕ) (fields : List (List ℕ)) → header_fault inputs n fields ≡ None → list_all (is_among fields) (names_of inputs) ≡ true
+pub all-named : (inputs : List Input) (n : ℕ) (fields : List (List ℕ)) → header_fault inputs n fields ≡ None
+    → list_all (is_among fields) (names_of inputs) ≡ true
 all-named inputs n fields e =
     test-passed (list_all (is_among fields) (names_of inputs)) (MissingInput n) (none-second (fields_fault inputs n [] fields) (missing_fault inputs n fields) e)
 
 pub own_columns : (vars : List Var) (ds : List design.Input) (header : List (List ℕ)) → list_all (is_among header) (names_of (map (input_of vars) ds)) ≡ true
-    → AllPairs (λ (a b : design.Input). a.name ≢ b.name) ds → input_widths (layout_of (map (input_of vars) ds) header) ≡ map (λ (i : Input). i.width) (map (input_of vars) ds)
+    → AllPairs (λ (a b : design.Input). a.name ≢ b.name) ds → input_widths (layout_of (map (input_of vars) ds) header)
+    ≡ map (λ (i : Input). i.width) (map (input_of vars) ds)
 own_columns vars ds header named differ = widths-at (map (input_of vars) ds) (map (input_of vars) ds) header named ∙ own-widths vars ds differ

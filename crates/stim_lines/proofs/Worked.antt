@@ -6,7 +6,8 @@ use Rattle.stim_lines.specs.Fields.{says, skipped, refused}
 use Rattle.stim_lines.specs.Header.{Input}
 use Rattle.stim_lines.specs.Stimulus.{stimulus_of}
 use Rattle.stim_lines.specs.declared.fault.StimFault.{StimFault}
-use Rattle.stim_lines.specs.declared.fault.StimFault.TheVariants.{BadHeader, UnknownInput, MissingInput, RepeatedInput, BadValue, TooWide, WrongCount, BadRepeat, TooManyCycles, LineTooLong}
+use Rattle.stim_lines.specs.declared.fault.StimFault.TheVariants.{BadHeader, UnknownInput, MissingInput, RepeatedInput, BadValue, TooWide, WrongCount}
+use Rattle.stim_lines.specs.declared.fault.StimFault.TheVariants.{BadRepeat, TooManyCycles, LineTooLong}
 use Rattle.stim_lines.specs.declared.row.Row.{Row}
 use Rattle.stim_lines.specs.declared.row.StimText.{StimText}
 
@@ -27,7 +28,8 @@ gives rows fault = Ok (record { rows = rows; fault = fault })
 abbrev two : List Input
 two = input (codes "rst") 1 ∷ input (codes "a") 1 ∷ []
 
-bad_value : stimulus_of two (text_of (codes "rst a" ∷ codes "0 1" ∷ codes "0 1" ∷ codes "0 1g" ∷ [])) ≡ gives (row (0 ∷ 1 ∷ []) 1 ∷ row (0 ∷ 1 ∷ []) 1 ∷ []) (Some (BadValue 4))
+bad_value : stimulus_of two (text_of (codes "rst a" ∷ codes "0 1" ∷ codes "0 1" ∷ codes "0 1g" ∷ []))
+    ≡ gives (row (0 ∷ 1 ∷ []) 1 ∷ row (0 ∷ 1 ∷ []) 1 ∷ []) (Some (BadValue 4))
 bad_value = refl
 
 -- in another order, with notes, more blanks, and a last line without line feed

@@ -1,5 +1,7 @@
 -- What readers of single lines tell.
 use Rattle.std.specs.Prelude.{◌≡◌, ℕ, Bool, true, false, List, Result, Ok, Err, Option, IfSome}
+use Rattle.cov_types.specs.declared.limit.LimitName.{LimitName}
+use Rattle.cov_types.specs.declared.limit.LimitName.TheVariants.{StimulusBytes}
 use Rattle.stim_lines.specs.Fields.{Said, skipped, refused, spoken, fields_of}
 use Rattle.stim_lines.specs.declared.fault.StimFault.{StimFault}
 use Rattle.stim_lines.specs.declared.fault.StimFault.TheVariants as fault
@@ -31,6 +33,11 @@ line_of fault.NoMemory = None
 abbrev pub NamesLine : StimFault → ℕ → Type 0
 NamesLine flaw number = IfSome (line_of flaw) (λ n. n ≡ number)
 
+-- the one limit that a stimulus may pass
+abbrev pub is_stimulus_limit : LimitName → Bool
+is_stimulus_limit StimulusBytes = true
+is_stimulus_limit _ = false
+
 -- a fault of a text, neither a failed read nor want of memory
 abbrev pub is_of_text : StimFault → Bool
 is_of_text fault.Failed = false
@@ -45,4 +52,4 @@ is_of_text (fault.WrongCount n) = true
 is_of_text (fault.BadRepeat n) = true
 is_of_text (fault.TooManyCycles n) = true
 is_of_text (fault.LineTooLong n) = true
-is_of_text (fault.Limit name) = true
+is_of_text (fault.Limit name) = is_stimulus_limit name

@@ -28,6 +28,7 @@ pub fn read_header(
     ensures fault { IfErr result (λ flaw. is_of_text flaw ≡ true → spec.header_fault (spec.inputs_of design.now) number (fields_of line.now) ≡ Some flaw) }
     ensures line { IfErr result (λ flaw. NamesLine flaw number) }
     ensures no_failure { IfErr result (λ flaw. flaw ≡ StimFault.Failed → ⊥) }
+    ensures of_text { IfErr result (λ flaw. (flaw ≡ StimFault.NoMemory → ⊥) → is_of_text flaw ≡ true) }
 {
     if let Some(fault) = header_fault(number, line, design) {
         return Err(fault);

@@ -1,5 +1,6 @@
 -- The lines of an open stimulus.
-use Rattle.std.proofs.Common.{◌≡◌, ℕ, ◌+◌, ◌-◌, ◌≤◌, Bool, true, false, not, Option, None, Some, Result, Ok, Err, IfSome, IfOk, IfErr, OnOk, List, [], ◌∷◌, ◌++◌, filter, length, map, take, refl, sym, ◌∙◌, ap, arith, length-append, append_assoc}
+use Rattle.std.proofs.Common.{◌≡◌, ℕ, ◌+◌, ◌-◌, ◌≤◌, Bool, true, false, not, Option, None, Some, Result, Ok, Err, IfSome, IfOk, IfErr, OnOk, List, [], ◌∷◌}
+use Rattle.std.proofs.Common.{◌++◌, filter, length, map, take, refl, sym, ◌∙◌, ap, arith, length-append, append_assoc}
 use Rattle.std.specs.Option.{option_map}
 use Rattle.std.proofs.lemmas.Bool.{le-ltb}
 use Rattle.std.proofs.lemmas.List.{map-append}
@@ -26,14 +27,16 @@ first-heard : (number bytes : ℕ) (left rest : List ℕ) (l : Line) → lines_o
 first-heard number bytes left rest l lines = ap (λ (ls : List Line). spoken_of (all_say (number + 1) bytes ls)) lines
 
 -- a line that is skipped, one that speaks, and one that is refused
-pub text-skipped : (number bytes k : ℕ) (left rest line : List ℕ) (ended speaks : Bool) → lines_of left ≡ (line, ended) ∷ lines_of rest → k ≡ bytes_of (line, ended) → speaks ≡ false
+pub text-skipped : (number bytes k : ℕ) (left rest line : List ℕ) (ended speaks : Bool) → lines_of left ≡ (line, ended) ∷ lines_of rest
+    → k ≡ bytes_of (line, ended) → speaks ≡ false
     → seen_said (number + 1) line (Ok speaks) ≡ says (bytes + k) (number + 1) (line, ended) → heard number bytes left ≡ heard (number + 1) (bytes + k) rest
 text-skipped number bytes k left rest line ended speaks lines sum silent said =
     let told : skipped ≡ says (bytes + bytes_of (line, ended)) (number + 1) (line, ended) = rw (silent, sum) at said in
     rw sum (first-heard number bytes left rest (line, ended) lines
     ∙ ap (λ (s : Said). spoken_of (s ∷ all_say (number + 1 + 1) (bytes + bytes_of (line, ended)) (lines_of rest))) (sym told))
 
-pub text-spoken : (number bytes k : ℕ) (left rest line : List ℕ) (ended speaks : Bool) → lines_of left ≡ (line, ended) ∷ lines_of rest → k ≡ bytes_of (line, ended) → speaks ≡ true
+pub text-spoken : (number bytes k : ℕ) (left rest line : List ℕ) (ended speaks : Bool) → lines_of left ≡ (line, ended) ∷ lines_of rest
+    → k ≡ bytes_of (line, ended) → speaks ≡ true
     → seen_said (number + 1) line (Ok speaks) ≡ says (bytes + k) (number + 1) (line, ended)
     → heard number bytes left ≡ spoken (number + 1) (fields_of line) ∷ heard (number + 1) (bytes + k) rest
 text-spoken number bytes k left rest line ended speaks lines sum loud said =
@@ -41,7 +44,8 @@ text-spoken number bytes k left rest line ended speaks lines sum loud said =
     rw sum (first-heard number bytes left rest (line, ended) lines
     ∙ ap (λ (s : Said). spoken_of (s ∷ all_say (number + 1 + 1) (bytes + bytes_of (line, ended)) (lines_of rest))) (sym told))
 
-pub text-refused : (number bytes k : ℕ) (left rest line : List ℕ) (ended : Bool) (flaw : StimFault) → lines_of left ≡ (line, ended) ∷ lines_of rest → k ≡ bytes_of (line, ended)
+pub text-refused : (number bytes k : ℕ) (left rest line : List ℕ) (ended : Bool) (flaw : StimFault) → lines_of left ≡ (line, ended) ∷ lines_of rest
+    → k ≡ bytes_of (line, ended)
     → refused flaw ≡ says (bytes + k) (number + 1) (line, ended) → BeginsRefused flaw (heard number bytes left)
 text-refused number bytes k left rest line ended flaw lines sum said =
     let told : refused flaw ≡ says (bytes + bytes_of (line, ended)) (number + 1) (line, ended) = rw sum at said in
@@ -54,7 +58,8 @@ story-said false n line said e = sym e
 
 -- the same of a line as it was handed on
 pub said-story : (speaks : Bool) (n bytes k : ℕ) (line here : List ℕ) (ended : Bool) → here ≡ line → k ≡ bytes_of (here, ended)
-    → seen_said n here (Ok speaks) ≡ says (bytes + k) n (here, ended) → IsStory (line_story speaks) n line (says (bytes + bytes_of (line, ended)) n (line, ended))
+    → seen_said n here (Ok speaks) ≡ says (bytes + k) n (here, ended)
+    → IsStory (line_story speaks) n line (says (bytes + bytes_of (line, ended)) n (line, ended))
 said-story speaks n bytes k line here ended same sum said =
     rw (← same) (story-said speaks n here (says (bytes + bytes_of (here, ended)) n (here, ended)) (rw sum at said))
 
@@ -104,7 +109,8 @@ long-first number bytes flaw left (l ∷ ls) lines long says_so =
     (spoken_of more, ap (λ (ms : List Line). spoken_of (all_say (number + 1) bytes ms)) lines ∙ ap (λ (s : Said). spoken_of (s ∷ more)) (says_so l long))
 
 pub refused_long : (flaw : StimFault) (number bytes : ℕ) (before : Option (List ℕ)) → IfSome before (λ left. begins_long (lines_of left) ≡ true)
-    → ((l : Line) → is_long l ≡ true → says (bytes + bytes_of l) (number + 1) l ≡ refused flaw) → IfSome (option_map (heard number bytes) before) (BeginsRefused flaw)
+    → ((l : Line) → is_long l ≡ true → says (bytes + bytes_of l) (number + 1) l ≡ refused flaw)
+    → IfSome (option_map (heard number bytes) before) (BeginsRefused flaw)
 refused_long flaw number bytes None long says_so = tt
 refused_long flaw number bytes (Some left) long says_so = long-first number bytes flaw left (lines_of left) refl long says_so
 
@@ -181,7 +187,8 @@ frugal text old rest_old given left cutter (Some rest) s split told few =
     let at : old.number + 1 - 1 ≡ length s.before = omega (arith, s.number) in
     let lines : take (old.number + 1 - 1) (lines_of text) ≡ s.before =
     rw (at, s.parts) (take-append_seam s.before (lines_of s.left)) in
-    let counted : bytes_before_line (old.number + 1) text ≡ length s.front = ap (λ (ls : List Line). total (map bytes_of ls)) lines ∙ sym s.bytes ∙ sym s.counted in
+    let counted : bytes_before_line (old.number + 1) text ≡ length s.front = ap (λ (ls : List Line). total (map bytes_of ls)) lines ∙ sym s.bytes
+    ∙ sym s.counted in
     record {
       taken = s.front ++ (given ++ cutter.ahead);
       left = rest;
@@ -242,7 +249,8 @@ tell_stands (Ok comes) step ended mid old new rest_old rest_new gives one long n
 
 -- how much was taken with the line that was given
 pub tell_given : (result : Result LineStory StimFault) (step : LineStep) (ended : Bool) (mid old new : LinesState) (rest_old rest_new : Option (List ℕ))
-    → GivesTold step mid.cutter.line (left_of old.cutter rest_old) (left_of mid.cutter rest_new) → length (bytes_given step mid.cutter.line) + length mid.cutter.ahead ≤ 65536
+    → GivesTold step mid.cutter.line (left_of old.cutter rest_old) (left_of mid.cutter rest_new)
+    → length (bytes_given step mid.cutter.line) + length mid.cutter.ahead ≤ 65536
     → mid.number ≡ old.number → OnOk result (IsNext (bytes_of (mid.cutter.line, ended)) mid new)
     → IfOk result (λ s. IfSpoken s ((text : List ℕ) → StandsIn text old rest_old → IsFrugal text rest_new new.number))
 tell_given (Err flaw) step ended mid old new rest_old rest_new gives few number next = tt

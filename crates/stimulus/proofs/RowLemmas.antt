@@ -12,7 +12,8 @@ placed-fit cells widths columns fit k within =
     let inside : k < length columns = omega (arith, within, length-map columns (slice_index cells)) in
     rw (get_or-map (slice_index cells) columns k 0 0 inside, get_or-map (slice_index widths) columns k 0 0 inside) (fit (slice_index columns k))
 
-pub fits_layout : (layout : Layout) (cells : List ℕ) (repeat : ℕ) → ((k : ℕ) → slice_index cells k < 2 ^ slice_index layout.widths k) → 1 ≤ repeat → repeat ≤ 4294967296
+pub fits_layout : (layout : Layout) (cells : List ℕ) (repeat : ℕ) → ((k : ℕ) → slice_index cells k < 2 ^ slice_index layout.widths k) → 1 ≤ repeat
+    → repeat ≤ 4294967296
     → FitsLayout layout (record { values = placed cells layout.columns; repeat = repeat })
 fits_layout layout cells repeat fit some most = record {
   as_many = length-map layout.columns (slice_index cells) ∙ sym (length-map layout.columns (slice_index layout.widths));

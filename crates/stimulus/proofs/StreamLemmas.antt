@@ -21,15 +21,18 @@ use Rattle.stimulus.specs.declared.row_step.RowStep.{RowStep}
 use Rattle.stimulus.specs.declared.row_step.RowStep.TheVariants as step
 
 -- a line that gives a row gives that of its fields
-said-row : (layout : Layout) (cycles n : ℕ) (fields : List (List ℕ)) (row : Row) (rest : StimText) → row_said layout cycles n fields rest ≡ with_row row rest → laid_row layout fields ≡ row
+said-row : (layout : Layout) (cycles n : ℕ) (fields : List (List ℕ)) (row : Row) (rest : StimText) → row_said layout cycles n fields rest ≡ with_row row rest
+    → laid_row layout fields ≡ row
 said-row layout cycles n fields row rest e = by (laid_fault layout.widths n fields) (nat_lt 4294967296 (cycles + (laid_row layout fields).repeat)) e
   where
-    by : (o : Option StimFault) (t : Bool) → unless_fault o (cond t (only_fault (TooManyCycles n)) (with_row (laid_row layout fields) rest)) ≡ with_row row rest → laid_row layout fields ≡ row
+    by : (o : Option StimFault) (t : Bool) → unless_fault o (cond t (only_fault (TooManyCycles n)) (with_row (laid_row layout fields) rest))
+        ≡ with_row row rest → laid_row layout fields ≡ row
     by (Some flaw) t told = let rows : [] ≡ row ∷ rest.rows = ap (λ (s : StimText). s.rows) told in absurd (cc)
     by None true told = let rows : [] ≡ row ∷ rest.rows = ap (λ (s : StimText). s.rows) told in absurd (cc)
     by None false told = let rows : laid_row layout fields ∷ rest.rows ≡ row ∷ rest.rows = ap (λ (s : StimText). s.rows) told in cc
 
-tells-said : (layout : Layout) (cycles n : ℕ) (fields : List (List ℕ)) (row : Row) (before after : Option (List Said)) → ComesTold story.Spoken (spoken n fields) before after
+tells-said : (layout : Layout) (cycles n : ℕ) (fields : List (List ℕ)) (row : Row) (before after : Option (List Said))
+    → ComesTold story.Spoken (spoken n fields) before after
     → ((rest : StimText) → row_said layout cycles n fields rest ≡ with_row row rest)
     → TellsLeft step.Row row (option_map (rows_laid layout cycles) before) (option_map (rows_laid layout (cycles + row.repeat)) after)
 tells-said layout cycles n fields row None after comes said = tt
@@ -38,7 +41,8 @@ tells-said layout cycles n fields row (Some was) after comes said =
     let same : (laid_row layout fields).repeat ≡ row.repeat = ap (λ (r : Row). r.repeat) (said-row layout cycles n fields row no_rows (said no_rows)) in (
       rows_laid layout (cycles + row.repeat) left,
       ap (option_map (rows_laid layout (cycles + row.repeat))) comes.1,
-      ap (rows_laid layout cycles) comes.2 ∙ said (rows_laid layout (cycles + (laid_row layout fields).repeat) left) ∙ ap (λ (k : ℕ). with_row row (rows_laid layout (cycles + k) left)) same,
+      ap (rows_laid layout cycles) comes.2 ∙ said (rows_laid layout (cycles + (laid_row layout fields).repeat) left)
+          ∙ ap (λ (k : ℕ). with_row row (rows_laid layout (cycles + k) left)) same,
     )
 
 -- the row that comes next
@@ -52,8 +56,10 @@ tells_row (Ok s) lines mid layout cycles flaw new row rest_old rest_new none com
     rw (is, made, none) (tells-said layout cycles mid.number (fields_of mid.cutter.line) row (heard_left lines rest_old) (heard_left mid rest_new) comes said)
 
 -- the row that is refused
-refused-said : (layout : Layout) (cycles n : ℕ) (fields : List (List ℕ)) (fault : StimFault) (before after : Option (List Said)) → ComesTold story.Spoken (spoken n fields) before after
-    → ((rest : StimText) → row_said layout cycles n fields rest ≡ only_fault fault) → IfSome (option_map (rows_laid layout cycles) before) (λ was. was ≡ only_fault fault)
+refused-said : (layout : Layout) (cycles n : ℕ) (fields : List (List ℕ)) (fault : StimFault) (before after : Option (List Said))
+    → ComesTold story.Spoken (spoken n fields) before after
+    → ((rest : StimText) → row_said layout cycles n fields rest ≡ only_fault fault)
+    → IfSome (option_map (rows_laid layout cycles) before) (λ was. was ≡ only_fault fault)
 refused-said layout cycles n fields fault None after comes said = tt
 refused-said layout cycles n fields fault (Some was) after comes said =
     ap (rows_laid layout cycles) comes.2 ∙ said (rows_laid layout (cycles + (laid_row layout fields).repeat) comes.0)
@@ -75,7 +81,8 @@ starts-header design layout mid reader None rest_new comes none lays made = tt
 starts-header design layout mid reader (Some text) rest_new comes none lays made =
     let left = comes.0 in (
       rows_laid layout 0 left,
-      ap (stimulus_said (inputs_of design)) comes.2 ∙ ap (headed (inputs_of design) mid.number (fields_of mid.cutter.line) left) none ∙ ap (λ (s : StimText). Ok s) (sym (lays 0 left)),
+      ap (stimulus_said (inputs_of design)) comes.2 ∙ ap (headed (inputs_of design) mid.number (fields_of mid.cutter.line) left) none
+          ∙ ap (λ (s : StimText). Ok s) (sym (lays 0 left)),
       rw made (ap (option_map (rows_laid layout 0)) comes.1),
     )
 
@@ -91,7 +98,8 @@ header_starts (Ok made) design mid rest_old rest_new comes none lays new = start
 -- the header that is refused
 refused-header : (design : Design) (fault : StimFault) (mid : LinesState) (rest_old rest_new : Option (List ℕ))
     → ComesTold story.Spoken (line_said mid) (heard_left fresh_lines rest_old) (heard_left mid rest_new)
-    → header_fault (inputs_of design) mid.number (fields_of mid.cutter.line) ≡ Some fault → IfSome rest_old (λ text. stimulus_of (inputs_of design) text ≡ Err fault)
+    → header_fault (inputs_of design) mid.number (fields_of mid.cutter.line) ≡ Some fault
+    → IfSome rest_old (λ text. stimulus_of (inputs_of design) text ≡ Err fault)
 refused-header design fault mid None rest_new comes some = tt
 refused-header design fault mid (Some text) rest_new comes some =
     ap (stimulus_said (inputs_of design)) comes.2 ∙ ap (headed (inputs_of design) mid.number (fields_of mid.cutter.line) comes.0) some

@@ -1,5 +1,5 @@
 -- The rows of an open stimulus, one after the other.
-use Rattle.std.specs.Prelude.{◌≡◌, ℕ, true, List, [], Option, None, Some, Ok, IfSome}
+use Rattle.std.specs.Prelude.{◌≡◌, ◌+◌, ℕ, true, List, [], Option, None, Some, Ok, IfSome}
 use Rattle.std.specs.Option.{option_map}
 use Rattle.cov_port.specs.Files.{FileFaults, ReadsRose}
 use Rattle.stim_lines.specs.Fields.{Said}
@@ -38,7 +38,8 @@ rows_left reader rest = option_map (rows_behind reader.fault reader.layout reade
 
 -- The text is a stimulus, and its rows are left to be read.
 abbrev pub IsStarted : Design → Option (List ℕ) → ReaderState → Option (List ℕ) → Type 0
-IsStarted design before reader after = IfSome before (λ text. (left : StimText) × (stimulus_of (inputs_of design) text ≡ Ok left) × (rows_left reader after ≡ Some left))
+IsStarted design before reader after = IfSome before (λ text. (left : StimText) × (stimulus_of (inputs_of design) text ≡ Ok left) × (rows_left reader after
+    ≡ Some left))
 
 -- what a step tells of the rows that were left: a row that comes first, or that there is none and no fault
 abbrev pub Tells : RowStep → Row → StimText → StimText → Type 0
@@ -53,6 +54,11 @@ TellsLeft step row before after = IfSome before (λ was. (left : StimText) × (a
 abbrev pub HasRow : RowStep → Layout → Row → Row → Type 0
 HasRow step.Row layout old new = FitsLayout layout new
 HasRow step.End layout old new = new ≡ old
+
+-- the cycles of the rows so far: those of a row come to them, and the end leaves them
+abbrev pub CountsCycles : RowStep → Row → ℕ → ℕ → Type 0
+CountsCycles step.Row row before now = now ≡ before + row.repeat
+CountsCycles step.End row before now = now ≡ before
 
 -- a fault of the text is that of the rows that were left
 abbrev pub FaultOf : Option StimText → StimFault → Type 0

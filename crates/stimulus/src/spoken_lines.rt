@@ -74,6 +74,7 @@ impl SpokenLines {
         ensures fault_quiet { IfErr result (λ flaw. (flaw ≡ fault.Failed → ⊥) → F.faults files.new ≡ F.faults files.old) }
         ensures failed { IsErrOf result fault.Failed → ReadsRose (F.faults files.old) (F.faults files.new) }
         ensures no_memory { IsErrOf result fault.NoMemory → ⊥ }
+        ensures of_text { IfErr result (λ flaw. (flaw ≡ fault.Failed → ⊥) → is_of_text flaw ≡ true) }
     {
         'lines: loop {
             match self.take_line(files) {
@@ -101,6 +102,7 @@ impl SpokenLines {
         ensures fault_quiet { IfErr result (λ flaw. (flaw ≡ fault.Failed → ⊥) → F.faults files.new ≡ F.faults files.old) }
         ensures failed { IsErrOf result fault.Failed → ReadsRose (F.faults files.old) (F.faults files.new) }
         ensures no_memory { IsErrOf result fault.NoMemory → ⊥ }
+        ensures of_text { IfErr result (λ flaw. (flaw ≡ fault.Failed → ⊥) → is_of_text flaw ≡ true) }
     {
         match self.cutter.next_line(files) {
             Ok(LineStep::Line) => self.tell(true),

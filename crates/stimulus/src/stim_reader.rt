@@ -8,7 +8,7 @@ ghost use Rattle.stim_lines.specs.Stimulus.{only_fault, stimulus_of, with_row};
 ghost use Rattle.stim_lines.specs.declared.fault.StimFault.TheVariants as fault;
 ghost use Rattle.stim_lines.specs.declared.row.StimText.{StimText};
 ghost use Rattle.stimulus.specs.Lines.{IsFrugal, StandsIn, heard_left};
-ghost use Rattle.stimulus.specs.Streaming.{FaultOf, HasRow, IsStarted, ReadFailedBy, TellsLeft, rows_left};
+ghost use Rattle.stimulus.specs.Streaming.{CountsCycles, FaultOf, HasRow, IsStarted, ReadFailedBy, TellsLeft, rows_left};
 ghost use Rattle.stimulus.specs.Taking.{row_said};
 
 use crate::counted::{counted_row, empty_row, put_row};
@@ -59,7 +59,9 @@ impl StimReader {
         // The whole stimulus, or the fault at or before its header.
         ensures rows { IfOk result (λ made. IsStarted design.now (F.rest files.old) made.0 (F.rest files.new)) }
         ensures fault { IfErr result (λ flaw. is_of_text flaw ≡ true → IfSome (F.rest files.old) (λ text. stimulus_of (inputs_of design.now) text ≡ Err flaw)) }
+        ensures of_text { IfErr result (λ flaw. (flaw ≡ fault.Failed → ⊥) → (flaw ≡ fault.NoMemory → ⊥) → is_of_text flaw ≡ true) }
         ensures goes_on { IfOk result (λ made. made.0.fault ≡ None) }
+        ensures first { IfOk result (λ made. made.0.cycles ≡ 0) }
         ensures room { IfOk result (λ made. length made.1.values ≡ length made.0.layout.columns) }
         ensures as_many { IfOk result (λ made. length made.0.layout.columns ≡ length design.now.inputs) }
         ensures widths { IfOk result (λ made. DifferentNames design.now → input_widths made.0.layout ≡ map (λ i. i.width) (inputs_of design.now)) }
@@ -95,6 +97,9 @@ impl StimReader {
         ensures row { IfOk result (λ step. HasRow step self.new.layout row.old row.new) }
         ensures room { length row.new.values ≡ length self.new.layout.columns }
         ensures fault { IfErr result (λ flaw. FaultOf (rows_left self.old (F.rest files.old)) flaw) }
+        ensures of_text { IfErr result (λ flaw. self.old.fault ≡ None → (flaw ≡ fault.Failed → ⊥) → is_of_text flaw ≡ true) }
+        ensures counted { IfOk result (λ step. CountsCycles step row.new self.old.cycles self.new.cycles) }
+        ensures few { self.new.cycles ≤ 2 ^ 32 }
         ensures layout { self.new.layout ≡ self.old.layout }
         ensures goes_on { OnOk result (self.new.fault ≡ None) }
 
@@ -136,6 +141,7 @@ impl StimReader {
         ensures new { OnOk result (self.new ≡ record self.old { cycles = self.old.cycles + row.new.repeat }) }
         ensures fit { OnOk result (FitsLayout self.old.layout row.new) }
         ensures len { length row.new.values ≡ length self.old.layout.columns }
+        ensures few { self.new.cycles ≤ 4294967296 }
         ensures fault { IfErr result (λ flaw. (rest : StimText) → row_said self.old.layout self.old.cycles self.old.lines.number (fields_of self.old.lines.cutter.line) rest ≡ only_fault flaw) }
         ensures stays { IfErr result (λ flaw. self.new ≡ record self.old { fault = Some flaw }) }
         ensures nothing { OnErr result (row.new ≡ row.old) }
@@ -158,6 +164,7 @@ impl StimReader {
         ensures new { OnOk result (self.new ≡ record self.old { cycles = self.old.cycles + row.new.repeat }) }
         ensures fit { OnOk result (FitsLayout self.old.layout row.new) }
         ensures len { length row.new.values ≡ length self.old.layout.columns }
+        ensures few { self.new.cycles ≤ 4294967296 }
         ensures fault { IfErr result (λ flaw. (rest : StimText) → row_said self.old.layout self.old.cycles self.old.lines.number (fields_of self.old.lines.cutter.line) rest ≡ only_fault flaw) }
         ensures stays { OnErr result (self.new ≡ self.old) }
         ensures nothing { OnErr result (row.new ≡ row.old) }
@@ -198,6 +205,7 @@ fn start(alloc: Global, lines: SpokenLines, design: &Design) -> Result<(StimRead
     ensures fault { IfErr result (λ flaw. is_of_text flaw ≡ true → header_fault (inputs_of design.now) lines.number (fields_of lines.cutter.line) ≡ Some flaw) }
     ensures line { IfErr result (λ flaw. NamesLine flaw lines.number) }
     ensures no_failure { IfErr result (λ flaw. flaw ≡ fault.Failed → ⊥) }
+    ensures of_text { IfErr result (λ flaw. (flaw ≡ fault.NoMemory → ⊥) → is_of_text flaw ≡ true) }
 {
     let layout = match read_header(alloc, lines.number(), lines.line(), design) {
         Ok(layout) => layout,

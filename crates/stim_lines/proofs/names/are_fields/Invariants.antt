@@ -7,4 +7,5 @@ use Rattle.stim_lines.proofs.names.are_fields.Given as goal
 
 abbrev pub invariant-loop-input : goal.invariant-loop-input
 invariant-loop-input l =
-    list_all (λ (i : Input). spec.is_among (fields_of l.line) i.name) (drop l.input-index l.inputs) ≡ list_all (λ (i : Input). spec.is_among (fields_of l.line) i.name) l.inputs
+    list_all (λ (i : Input). spec.is_among (fields_of l.line) i.name) (drop l.input-index l.inputs)
+    ≡ list_all (λ (i : Input). spec.is_among (fields_of l.line) i.name) l.inputs

@@ -11,7 +11,8 @@ pub returns-in-Some : goal.returns-in-Some
 returns-in-Some c =
     let d = c.args.design.now in
     let input = c.in-Some.input.now in
-    let found : Some input ≡ find (λ (i : Input). bytes_eq i.name c.args.name.now) d.inputs = c.in-Some.ensures ∙ ap (λ (is : List Input). find (λ (i : Input). bytes_eq i.name c.args.name.now) is) c.as_slice.ensures in
+    let found : Some input ≡ find (λ (i : Input). bytes_eq i.name c.args.name.now) d.inputs = c.in-Some.ensures
+    ∙ ap (λ (is : List Input). find (λ (i : Input). bytes_eq i.name c.args.name.now) is) c.as_slice.ensures in
     c.var_width.ensures
     ∙ ap (λ (vs : List Var). option_map_or (λ (v : Var). v.width) (slice_get vs input.var) 0) c.as_slice-in-Some.ensures
     ∙ sym (width-here d.vars d.inputs c.args.name.now (Some input) found)
@@ -19,5 +20,6 @@ returns-in-Some c =
 pub returns-in-None : goal.returns-in-None
 returns-in-None c =
     let d = c.args.design.now in
-    let found : None ≡ find (λ (i : Input). bytes_eq i.name c.args.name.now) d.inputs = c.in-None.ensures ∙ ap (λ (is : List Input). find (λ (i : Input). bytes_eq i.name c.args.name.now) is) c.as_slice.ensures in
+    let found : None ≡ find (λ (i : Input). bytes_eq i.name c.args.name.now) d.inputs = c.in-None.ensures
+    ∙ ap (λ (is : List Input). find (λ (i : Input). bytes_eq i.name c.args.name.now) is) c.as_slice.ensures in
     sym (width-here d.vars d.inputs c.args.name.now None found)
