@@ -1,0 +1,4 @@
+pub mod RunLemmas
+pub mod RowLemmas
+pub mod AnswerLemmas
+pub mod Worked
