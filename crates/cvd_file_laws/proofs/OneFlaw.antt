@@ -6,7 +6,8 @@ use mathlib.Core.Logic.{inl, inr}
 use Rattle.design_tree.specs.declared.design.Design.{Design}
 use Rattle.design_tree.specs.declared.instrumented.Instrumented.{Instrumented}
 use Rattle.design_meaning.specs.Valid.{IsValid}
-use Rattle.cvd_text.specs.Fault.{Awaits, IsWrong, EndsFirst, Flaw, bad_number, bad_token, trailing, invalid, has_name, has_first_line, flaw_at, line_start, IsFlaw, other_text, no_line, other_version, wrong_piece, cut_off, goes_on, breaks_flow}
+use Rattle.cvd_text.specs.Fault.{Awaits, IsWrong, EndsFirst, Flaw, bad_number, bad_token, trailing, invalid, has_name, has_first_line, flaw_at, line_start}
+use Rattle.cvd_text.specs.Fault.{IsFlaw, other_text, no_line, other_version, wrong_piece, cut_off, goes_on, breaks_flow}
 use Rattle.cvd_text.specs.Laws.{OneFlaw}
 use Rattle.cvd_text.specs.Pieces.{Piece, a_word, feed, Mark, token, line_end, fits, pieces_of, onto_word, empty_word, design_marks}
 use Rattle.cvd_text.specs.Spelling.{design_lines, spelling, AllStand, Cvd}
@@ -15,7 +16,8 @@ use Rattle.cvd_cursor.specs.Places.{is_ended}
 use Rattle.cvd_cursor.proofs.Cutting.{pieces_before}
 use Rattle.spelling_laws.specs.Spelled as laws
 use Rattle.spelling_laws.specs.Spelled.{all_fit, Apart, OneSort}
-use Rattle.spelling_laws.proofs.Fitting.{first_true, second_true, both_true, cut_marks, same_length, Levi, first_longer, first_shorter, levi, length-joined, no_more, head_or}
+use Rattle.spelling_laws.proofs.Fitting.{first_true, second_true, both_true, cut_marks, same_length, Levi, first_longer, first_shorter, levi, length-joined}
+use Rattle.spelling_laws.proofs.Fitting.{no_more, head_or}
 use Rattle.spelling_laws.proofs.One.{one_place}
 use Rattle.cvd_section_laws.proofs.Whole.{apart_design}
 use Rattle.cvd_sort_laws.proofs.TokenSorts.{is_numeric_mark}
@@ -26,7 +28,8 @@ use Rattle.cvd_file_laws.proofs.Texts.{pieces_then, text_ended}
 -- ---- whole spellings in front of pieces
 
 -- two whole spellings in front of the same pieces are of one design
-same_whole : (xs ys us vs : List Piece) (x y : Instrumented) → xs ++ ys ≡ us ++ vs → all_fit fits xs (design_marks x) ≡ true → all_fit fits us (design_marks y) ≡ true
+same_whole : (xs ys us vs : List Piece) (x y : Instrumented) → xs ++ ys ≡ us ++ vs → all_fit fits xs (design_marks x) ≡ true
+    → all_fit fits us (design_marks y) ≡ true
     → x ≡ y
 same_whole xs ys us vs x y e f g = by (levi xs ys us vs e)
   where
@@ -101,7 +104,14 @@ ended_cons b bs e = by e.front e.split e.ended
   where
     first : (feeds : Bool) → eqb b 10 ≡ feeds → bs ≡ e.back → Ended (b ∷ bs)
     first true f s = record { front = b ∷ []; back = e.back; split = ap (λ l. b ∷ l) s; ended = f; clear = e.clear }
-    first false f s = record { front = []; back = b ∷ bs; split = refl; ended = refl; clear = no_feed b bs false (eqb b 32) f refl refl (ap pieces_of s ∙ e.clear) }
+    first false f s = record {
+      front = [];
+      back = b ∷ bs;
+      split = refl;
+      ended = refl;
+      clear = no_feed b bs false (eqb b 32) f refl refl (ap pieces_of s
+          ∙ e.clear);
+    }
 
     by : (front : List ℕ) → bs ≡ front ++ e.back → is_ended front ≡ true → Ended (b ∷ bs)
     by [] s h = first (eqb b 10) refl s
@@ -138,10 +148,10 @@ front_of x valid text more e =
 
 -- ---- wrong pieces
 
-to_awaits : (gs : List Piece) (m : Mark) → Awaits gs m → laws.Awaits fits design_marks gs m
+pub to_awaits : (gs : List Piece) (m : Mark) → Awaits gs m → laws.Awaits fits design_marks gs m
 to_awaits gs m w = record { value = w.design; first = w.first; more = w.more; split = w.split; fit = w.fit }
 
-from_awaits : (gs : List Piece) (m : Mark) → laws.Awaits fits design_marks gs m → Awaits gs m
+pub from_awaits : (gs : List Piece) (m : Mark) → laws.Awaits fits design_marks gs m → Awaits gs m
 from_awaits gs m w = record { design = w.value; first = w.first; more = w.more; split = w.split; fit = w.fit }
 
 to_wrong : (ps given : List Piece) (p : Piece) (m : Mark) (w : IsWrong ps given p m) → laws.IsWrong fits design_marks ps m (p ∷ w.rest)

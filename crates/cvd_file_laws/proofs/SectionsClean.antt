@@ -20,7 +20,8 @@ use Rattle.design_meaning.specs.Names.{is_name, begins_name, continues_name}
 use Rattle.design_meaning.specs.Valid.{IsValid}
 use Rattle.cvd_text.specs.Tokens.{word, number, hex, counters, words_of}
 use Rattle.cvd_text.specs.Lines.{Line}
-use Rattle.cvd_text.specs.Sections.{kind_word, process_word, var_line, var_lines, input_line, input_lines, output_line, output_lines, process_lines, processes_lines, toggle_line, toggle_lines, point_line, point_lines, lines_behind}
+use Rattle.cvd_text.specs.Sections.{kind_word, process_word, var_line, var_lines, input_line, input_lines, output_line, output_lines, process_lines}
+use Rattle.cvd_text.specs.Sections.{processes_lines, toggle_line, toggle_lines, point_line, point_lines, lines_behind}
 use Rattle.cvd_text.specs.Spelling.{last_line, design_lines}
 use Rattle.cvd_cursor.proofs.Cutting.{none_passes, separates}
 use Rattle.spelling_laws.proofs.Fitting.{first_true, second_true, both_true}

@@ -88,7 +88,7 @@ ends old now key cut k =
 -- ---- the marks of a key and of the end of its line
 
 -- where in them a line ends
-end_at : (ts : List Token) (e s : Bool) (first more : List Mark) → map token ts ++ line_end e ∷ [] ≡ first ++ line_end s ∷ more
+pub end_at : (ts : List Token) (e s : Bool) (first more : List Mark) → map token ts ++ line_end e ∷ [] ≡ first ++ line_end s ∷ more
     → (first ≡ map token ts) × (s ≡ e) × (more ≡ [])
 end_at [] e s [] more h = (refl, cc, sym (ap tail_of h))
 end_at [] e s (m ∷ first) more h = absurd (no_end first more (ap tail_of h))

@@ -16,3 +16,5 @@ pub mod Parts
 pub mod CounterLists
 pub mod KeyWords
 pub mod Points
+pub mod SectionEnds
+pub mod PointEnds

@@ -29,20 +29,23 @@ module _ {A : Type 0} (toks : A → List Token) (holds : A → Bool) where
 
   pub takes_line : (old mid new : Reading) (a : A) → Takes (marks toks) old mid a → Takes (line_marks (holds a)) mid new tt → Takes ended old new a
   takes_line old mid new a h k =
-      takes_as ((b : A) × Unit {0}) A (λ p. p.0) (λ b. (b, tt)) (λ p. marks toks p.0 ++ line_marks (holds p.0) p.1) ended (λ b. refl) (λ p. refl) old new (a, tt)
+      takes_as ((b : A) × Unit {0}) A (λ p. p.0) (λ b. (b, tt)) (λ p. marks toks p.0
+      ++ line_marks (holds p.0) p.1) ended (λ b. refl) (λ p. refl) old new (a, tt)
       (takes_both A (λ b. Unit {0}) (marks toks) (λ b. line_marks (holds b)) old mid new a tt h k)
 
   -- the tokens are wrong
   pub refused_tokens : Apart fits (marks toks) → (old new : Reading) (fault : ReadFault) → Refused (marks toks) old fault new → Refused ended old fault new
   refused_tokens apart old new fault r =
-      refused_by ((b : A) × Unit {0}) A (λ p. p.0) (λ b. (b, tt)) (λ p. marks toks p.0 ++ line_marks (holds p.0) p.1) ended (λ b. refl) (λ p. refl) old new fault
+      refused_by ((b : A) × Unit {0}) A (λ p. p.0) (λ b. (b, tt)) (λ p. marks toks p.0
+      ++ line_marks (holds p.0) p.1) ended (λ b. refl) (λ p. refl) old new fault
       (refused_first A (λ b. Unit {0}) (marks toks) (λ b. line_marks (holds b)) apart (λ b. tt) old new fault r)
 
   -- its end is wrong
   pub refused_end : Apart fits (marks toks) → (old mid new : Reading) (a : A) (fault : ReadFault) → Takes (marks toks) old mid a
       → Refused (line_marks (holds a)) mid fault new → Refused ended old fault new
   refused_end apart old mid new a fault h r =
-      refused_by ((b : A) × Unit {0}) A (λ p. p.0) (λ b. (b, tt)) (λ p. marks toks p.0 ++ line_marks (holds p.0) p.1) ended (λ b. refl) (λ p. refl) old new fault
+      refused_by ((b : A) × Unit {0}) A (λ p. p.0) (λ b. (b, tt)) (λ p. marks toks p.0
+      ++ line_marks (holds p.0) p.1) ended (λ b. refl) (λ p. refl) old new fault
       (refused_second A (λ b. Unit {0}) (marks toks) (λ b. line_marks (holds b)) a (apart a) old mid new fault h r)
 
   pub apart_line : Apart fits (marks toks) → Apart fits ended
@@ -62,7 +65,8 @@ module _ {A : Type 0} (toks : A → List Token) (holds : A → Bool) where
   held_judged Holds a found held e j = (subst (λ f. Judges holds Holds a f) e j).1
 
   -- behind its tokens a line is closed
-  pub closes : {V : Type 0} (Holds : A → V → Type 0) → Apart fits (marks toks) → (old mid new : Reading) (a : A) (found : Option V) (result : Result V ReadFault)
+  pub closes : {V : Type 0} (Holds : A → V → Type 0) → Apart fits (marks toks)
+      → (old mid new : Reading) (a : A) (found : Option V) (result : Result V ReadFault)
       → Takes (marks toks) old mid a → Judges holds Holds a found → Closes found mid result new → Reads ended Holds old result new
   closes Holds apart old mid new a found (Ok held) h j k =
       (a, (takes_line old mid new a h (subst (λ s. Takes (line_marks s) mid new tt) (some_judged Holds a found j) k.1.0), held_judged Holds a found held k.1.1 j))

@@ -1,5 +1,6 @@
 -- The section of points.
-use Rattle.std.proofs.Common.{◌≡◌, ℕ, Bool, true, false, List, [], ◌∷◌, ◌++◌, length, Option, Some, None, Result, Ok, Err, refl, sym, ◌∙◌, ap, subst, map, arith, length-append}
+use Rattle.std.proofs.Common.{◌≡◌, ℕ, Bool, true, false, List, [], ◌∷◌, ◌++◌, length, Option, Some, None, Result, Ok, Err, refl, sym, ◌∙◌, ap, subst, map}
+use Rattle.std.proofs.Common.{arith, length-append}
 use Rattle.std.specs.Prelude.{◌&&◌, codes, is_some, nat_le, slice_get, ◌-◌}
 use Rattle.std.specs.List.{list_all}
 use Rattle.std.specs.Option.{option_map}
@@ -28,7 +29,7 @@ use Rattle.cvd_sections.proofs.Lines.{end_stands}
 use Rattle.cvd_sections.proofs.Lists.{row}
 use Rattle.spelling_laws.proofs.Fitting.{second_true}
 
-apart_sides : Apart fits (marks sides_tokens)
+pub apart_sides : Apart fits (marks sides_tokens)
 apart_sides = then_apart (List ℕ) (List ℕ) (marks counters_tokens) (marks counters_tokens) apart_counters apart_counters
 
 -- a point as its counters and its key
@@ -41,7 +42,8 @@ point_by p = record { plus = p.0.0; minus = p.0.1; key = p.1 }
 abbrev pub parted : PointRow → Parted
 parted r = ((r.plus, r.minus), r.key)
 
-module _ (line : PointRow → Line) (spelled : PointRow → List Mark) (is : (r : PointRow) → spelled r ≡ marks sides_tokens (r.plus, r.minus) ++ keyed (λ k. (line (record { plus = r.plus; minus = r.minus; key = k })).holds) r.key) where
+module _ (line : PointRow → Line) (spelled : PointRow → List Mark) (is : (r : PointRow)
+    → spelled r ≡ marks sides_tokens (r.plus, r.minus) ++ keyed (λ k. (line (record { plus = r.plus; minus = r.minus; key = k })).holds) r.key) where
   abbrev holds : Sides → List ℕ → Bool
   holds s k = (line (point_by (s, k))).holds
 
@@ -59,7 +61,7 @@ module _ (line : PointRow → Line) (spelled : PointRow → List Mark) (is : (r 
       refused_by Parted PointRow point_by parted both spelled is (λ p. is (point_by p)) old new fault
       (refused_second Sides (λ x. List ℕ) (marks sides_tokens) (λ x. keyed (holds x)) s (apart_sides s) old mid new fault h r)
 
-  point_taken : (old mid new : Reading) (s : Sides) (key : List ℕ) → Takes (marks sides_tokens) old mid s → Takes (keyed (holds s)) mid new key
+  pub point_taken : (old mid new : Reading) (s : Sides) (key : List ℕ) → Takes (marks sides_tokens) old mid s → Takes (keyed (holds s)) mid new key
       → Takes spelled old new (point_by (s, key))
   point_taken old mid new s key h k =
       takes_as Parted PointRow point_by parted both spelled is (λ p. is (point_by p)) old new (s, key)
@@ -71,31 +73,14 @@ module _ (line : PointRow → Line) (spelled : PointRow → List Mark) (is : (r 
       (after.apart_pair fits Sides (λ s. List ℕ) (marks sides_tokens) (λ s. keyed (holds s)) (r.plus, r.minus) r.key (apart_sides (r.plus, r.minus))
       (apart_keyed (holds (r.plus, r.minus)) r.key))
 
-  is_found : (s : Sides) (key : List ℕ) (found : Option PointRow) → Judges (λ q. (line q).holds) (λ q held. held ≡ q) (point_by (s, key)) found
+  pub is_found : (s : Sides) (key : List ℕ) (found : Option PointRow) → Judges (λ q. (line q).holds) (λ q held. held ≡ q) (point_by (s, key)) found
       → is_some found ≡ holds s key
   is_found s key (Some v) j = sym j.0
   is_found s key None j = sym j
 
-  held_found : (s : Sides) (key : List ℕ) (found : Option PointRow) (held : PointRow) → found ≡ Some held
+  pub held_found : (s : Sides) (key : List ℕ) (found : Option PointRow) (held : PointRow) → found ≡ Some held
       → Judges (λ q. (line q).holds) (λ q held. held ≡ q) (point_by (s, key)) found → held ≡ point_by (s, key)
   held_found s key found held e j = (subst (λ f. Judges (λ q. (line q).holds) (λ q h. h ≡ q) (point_by (s, key)) f) e j).1
-
-  -- behind the key a point's line is closed
-  pub closes_point : (old mid there new : Reading) (s : Sides) (key : List ℕ) (found : Option PointRow) (result : Result PointRow ReadFault)
-      → Takes (marks sides_tokens) old mid s → Takes (marks words_of) mid there key → first_word there.rest ≡ None
-      → Judges (λ q. (line q).holds) (λ q held. held ≡ q) (point_by (s, key)) found → Closes found there result new
-      → Reads spelled (λ q held. held ≡ q) old result new
-  closes_point old mid there new s key found (Ok held) h k end j r = (
-    point_by (s, key),
-    (
-      point_taken old mid new s key h
-          (key_taken (holds s) mid there new key k (subst (λ b. Takes (line_marks b) there new tt) (is_found s key found j) r.1.0)),
-      held_found s key found held r.1.1 j,
-    ),
-  )
-  closes_point old mid there new s key found (Err fault) h k end j r =
-      rest_refused old mid new s fault h
-      (key_refused (holds s) mid there new key fault k end (subst (λ b. Refused (line_marks b) there fault new) (is_found s key found j) r))
 
 abbrev pub some_point : PointRow
 some_point = record { plus = []; minus = []; key = [] }
@@ -110,7 +95,8 @@ module _ (counters : ℕ) where
   abbrev pub section : List PointRow → List Mark
   section ps = marks_alone (point_lines counters ps)
 
-  pub alike : (ps : List PointRow) → section ps ≡ row_marks (heading (codes "points") (length ps) (may_be (length ps))) ++ marks_alone (lines_behind (each (length ps)) [] ps)
+  pub alike : (ps : List PointRow) → section ps ≡ row_marks (heading (codes "points") (length ps) (may_be (length ps)))
+      ++ marks_alone (lines_behind (each (length ps)) [] ps)
   alike ps = refl
 
   pub apart_rows : (s : ℕ × List PointRow) → Apart fits (row each s)

@@ -30,7 +30,8 @@ module _ (A : Type 0) (f : ℕ → List A → A → Line) (name : List ℕ) (ok 
       → Takes (line_marks (ok n)) mid now tt → Goes old now held []
   starts = counting.starts A (ℕ × List A) (row f) (behind_row f) (first_row f) name ok section
 
-  pub more : (read : ℕ) (ys : List A) (b : Bool) (held : Option ℕ) (old now : Reading) (g : Goes old now held ys) → read ≡ length ys → Tells b read held → b ≡ true
+  pub more : (read : ℕ) (ys : List A) (b : Bool) (held : Option ℕ) (old now : Reading) (g : Goes old now held ys) → read ≡ length ys → Tells b read held
+      → b ≡ true
       → length ys < g.n
   more read ys b held old now g len tells so = more_left (length ys) g.n (sym so ∙ tells g.n g.count ∙ ap (λ k. nat_lt k g.n) len)
 

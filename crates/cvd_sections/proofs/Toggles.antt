@@ -26,5 +26,6 @@ module _ (vars : List Var) (counters : ℕ) where
   pub apart_rows : (s : ℕ × List ToggleEntry) → Apart fits (row each s)
   apart_rows s = apart_line toggle_tokens (λ t. (each s.0 s.1 t).holds) apart_toggle
 
-  pub alike : (ts : List ToggleEntry) → section ts ≡ row_marks (heading (codes "toggles") (length ts) true) ++ marks_alone (lines_behind (each (length ts)) [] ts)
+  pub alike : (ts : List ToggleEntry) → section ts ≡ row_marks (heading (codes "toggles") (length ts) true)
+      ++ marks_alone (lines_behind (each (length ts)) [] ts)
   alike ts = refl

@@ -35,7 +35,8 @@ HoldsPlace t held = (held.0 ≡ t.var) × (held.1 ≡ t.word) × (held.2 ≡ t.b
 
 -- a word and a bit that a variable has
 abbrev pub JudgesBit : Var → ℕ → ℕ → Option (ℕ × ℕ) → Type 0
-JudgesBit v at place found = Judges (λ (p : TwoNumbers). nat_lt p.0 v.words && nat_lt p.1 v.width) (λ (p : TwoNumbers) held. (held.0 ≡ p.0) × (held.1 ≡ p.1)) (at, place) found
+JudgesBit v at place found = Judges (λ (p : TwoNumbers). nat_lt p.0 v.words && nat_lt p.1 v.width) (λ (p : TwoNumbers) held. (held.0 ≡ p.0) × (held.1
+    ≡ p.1)) (at, place) found
 
 -- a variable's start and kind
 abbrev pub Rest : Type 0

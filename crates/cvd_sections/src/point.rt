@@ -11,6 +11,7 @@ ghost use Rattle.cvd_text.specs.Sections.{is_below, point_line, point_lines};
 ghost use Rattle.design_tree.specs.declared.instrumented.PointRow.{PointRow};
 ghost use Rattle.cvd_sections.specs.Alone.{marks_alone, row_marks};
 ghost use Rattle.cvd_sections.specs.Closing.{Judges};
+ghost use Rattle.cvd_line_ends.specs.Ends.{ReadsLines};
 ghost use Rattle.cvd_sections.specs.Keys.{AreCut, HoldsSides, last_key, sides_tokens};
 ghost use Rattle.cvd_sections.specs.Places.{IsLastOf, is_behind};
 
@@ -40,7 +41,7 @@ pub fn read_points(
     counters: u32,
 ) -> Result<Rows<PointRow>, ReadFault>
     requires { AreCut cursor.old.rest }
-    ensures { Reads (λ ps. marks_alone (point_lines counters ps)) (λ ps held. held ≡ ps) cursor.old result cursor.new }
+    ensures { ReadsLines (λ ps. marks_alone (point_lines counters ps)) (λ ps held. held ≡ ps) cursor.old result cursor.new }
 {
     let count = read_heading(cursor, b"points")?;
     cursor.end_line(may_be(count))?;
@@ -79,7 +80,7 @@ fn read_point(
     last: Option<&[u8]>,
 ) -> Result<PointRow, ReadFault>
     requires { AreCut cursor.old.rest }
-    ensures { (before : List PointRow) → IsLastOf is_below (λ p. p.key) before (option_copied last.entry) → Reads (λ p. row_marks (point_line counters before p)) (λ p held. held ≡ p) cursor.old result cursor.new }
+    ensures { (before : List PointRow) → IsLastOf is_below (λ p. p.key) before (option_copied last.entry) → ReadsLines (λ p. row_marks (point_line counters before p)) (λ p held. held ≡ p) cursor.old result cursor.new }
 {
     let sides = read_sides(alloc, cursor, counters)?;
     let key = read_key(alloc, cursor)?;

@@ -22,16 +22,32 @@ use Rattle.cvd_laws.proofs.TypedSorts.{sorted_typed}
 use Rattle.cvd_laws.proofs.Targets as targets
 use Rattle.cvd_laws.proofs.Pieces as pieces
 
+-- a property of marks, by whether they are tokens where a number must stand, other tokens, or ends of lines
+pub record MarkSort : Type 0 where
+  pub tokens : Bool → Bool
+  pub ends : Bool
+
+abbrev pub has_sort : MarkSort → Mark → Bool
+has_sort sort (token t) = sort.tokens (is_numeric t)
+has_sort sort (line_end stands) = sort.ends
+
+-- a number has to stand there
+abbrev pub numbers : MarkSort
+numbers = record { tokens = λ numeric. numeric; ends = false }
+
+-- a line has to end there
+abbrev pub line_ends : MarkSort
+line_ends = record { tokens = λ numeric. false; ends = true }
+
 -- whether a number has to stand there
 abbrev pub is_numeric_mark : Mark → Bool
-is_numeric_mark (token t) = is_numeric t
-is_numeric_mark (line_end stands) = false
+is_numeric_mark = has_sort numbers
 
 abbrev pub TokensSorted : {A : Type 0} → ℕ → (A → List Token) → Type 0
 TokensSorted most s = OneSort is_token most is_numeric s
 
-abbrev pub MarksSorted : {A : Type 0} → ℕ → (A → List Mark) → Type 0
-MarksSorted most s = OneSort fits most is_numeric_mark s
+abbrev pub MarksSorted : MarkSort → {A : Type 0} → ℕ → (A → List Mark) → Type 0
+MarksSorted sort most s = OneSort fits most (has_sort sort) s
 
 -- ---- from tokens to marks
 
@@ -71,15 +87,15 @@ module _ {A : Type 0} (s : A → List Token) where
                 awaits = record { value = v.value; first = c.front; more = back; split = split; fit = given.fit };
               }
 
-  pub lifted : (most : ℕ) → TokensSorted most s → MarksSorted most (marks s)
-  lifted most h gs m n few v w =
+  pub lifted : (sort : MarkSort) (most : ℕ) → TokensSorted most s → MarksSorted sort most (marks s)
+  lifted sort most h gs m n few v w =
       let a = told gs m v in
       let b = told gs n w in
       let same = a_words b.words a.words (sym b.split ∙ a.split) in
       let counts : length a.words ≤ most = (let l = ap length a.split ∙ map_length a.words in omega arith) in
-      ap is_numeric_mark a.is
-      ∙ h a.words a.wanted b.wanted counts a.awaits (subst (λ l. Awaits is_token s l b.wanted) same b.awaits)
-      ∙ sym (ap is_numeric_mark b.is)
+      ap (has_sort sort) a.is
+      ∙ ap sort.tokens (h a.words a.wanted b.wanted counts a.awaits (subst (λ l. Awaits is_token s l b.wanted) same b.awaits))
+      ∙ sym (ap (has_sort sort) b.is)
     where
       map_length : (ws : List (List ℕ)) → length (map a_word ws) ≡ length ws
       map_length [] = refl
@@ -93,8 +109,8 @@ sorted_number most = sorts_one is_token is_numeric ℕ number (λ v w. refl) mos
 pub sorted_sign : (most : ℕ) → TokensSorted most sSign
 sorted_sign most = sorts_one is_token is_numeric Bool sign_token (λ v w. refl) most
 
-pub sorted_end : (most : ℕ) (stands : Bool) → MarksSorted most (line_marks stands)
-sorted_end most stands = sorts_one fits is_numeric_mark (Unit {0}) (λ u. line_end stands) (λ v w. refl) most
+pub sorted_end : (sort : MarkSort) (most : ℕ) (stands : Bool) → MarksSorted sort most (line_marks stands)
+sorted_end sort most stands = sorts_one fits (has_sort sort) (Unit {0}) (λ u. line_end stands) (λ v w. refl) most
 
 -- ---- targets
 

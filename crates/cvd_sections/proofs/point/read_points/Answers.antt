@@ -10,20 +10,21 @@ use Rattle.cvd_sections.specs.Places.{IsLastOf}
 use Rattle.cvd_sections.proofs.KeyWords.{cut_behind}
 use Rattle.cvd_sections.proofs.Lists.{row, shorter}
 use Rattle.cvd_sections.proofs.Lasts.{below_passes, last_of_more}
-use Rattle.cvd_sections.proofs.RowSections.{Goes, row_some, starts, more, one_more, heading_refused, heading_broken, one_refused, ends}
+use Rattle.cvd_sections.proofs.RowSections.{Goes, row_some, starts, more, one_more, ends}
+use Rattle.cvd_sections.proofs.SectionEnds.{heading_halts, heading_ends, next_halts}
 use Rattle.cvd_sections.proofs.Points.{alike, apart_rows, each, last_added, may_be, point_stood, section, some_point}
 use Rattle.cvd_sections.proofs.point.read_points.Goals as goal
 
 pub returns-in_err-count : goal.returns-in_err-count
 returns-in_err-count c =
     let p = err_from_is_err_and c.from_residual.result c.from_residual.ensures.1 in
-    rw (p.1, p.2) (heading_refused PointRow (each c.args.counters) (codes "points") may_be (section c.args.counters) (alike c.args.counters) some_point c.args.cursor.now _ _ c.in_err-count.ensures)
+    rw (p.1, p.2) (heading_halts PointRow (each c.args.counters) (codes "points") may_be (section c.args.counters) (alike c.args.counters) some_point (apart_rows c.args.counters) c.args.cursor.now _ _ c.in_err-count.ensures)
 
 pub returns-in_err-end_line : goal.returns-in_err-end_line
 returns-in_err-end_line c =
     let a = c.in_ok-count.ensures in
     let p = err_from_is_err_and c.from_residual-in_err-end_line.result c.from_residual-in_err-end_line.ensures.1 in
-    rw (p.1, p.2) (heading_broken PointRow (each c.args.counters) (codes "points") may_be (section c.args.counters) (alike c.args.counters) some_point c.args.cursor.now c.read_heading.new.cursor _ a.0 _ a.1.0
+    rw (p.1, p.2) (heading_ends PointRow (each c.args.counters) (codes "points") may_be (section c.args.counters) (alike c.args.counters) some_point (apart_rows c.args.counters) c.args.cursor.now c.read_heading.new.cursor _ a.0 _ a.1.0
     (subst (λ b. Refused (line_marks b) c.read_heading.new.cursor c.in_err-end_line.field-0.0 c.end_line.new.self) (c.may_be.ensures a.0 a.1.1)
     c.in_err-end_line.ensures))
 
@@ -51,7 +52,7 @@ returns-in_err-point c =
     let less = more PointRow (each c.args.counters) (codes "points") may_be (section c.args.counters) c.len.result l.kept c.wants_more.result c.in_ok-count.count c.args.cursor.now l.cursor g c.len.ensures c.wants_more.ensures
     c.points-test.true in
     let p = err_from_is_err_and c.from_residual-in_err-point.result c.from_residual-in_err-point.ensures.1 in
-    rw (p.1, p.2) (one_refused PointRow (each c.args.counters) (codes "points") may_be (section c.args.counters) (alike c.args.counters) some_point (apart_rows c.args.counters) c.args.cursor.now l.cursor _ c.in_ok-count.count l.kept _ g less
+    rw (p.1, p.2) (next_halts PointRow (each c.args.counters) (codes "points") may_be (section c.args.counters) (alike c.args.counters) some_point (apart_rows c.args.counters) c.args.cursor.now l.cursor _ c.in_ok-count.count l.kept _ g less
     (c.in_err-point.ensures l.kept last))
 
 pub points-preserved : goal.points-preserved

@@ -1,0 +1,4 @@
+pub mod TextLines
+pub mod Whole
+pub mod FirstWrong
+pub mod Told

@@ -1,0 +1,2 @@
+//! Where lines of design files end: what a reader knows that stops at a line feed.
+#![tactic(auto)]
