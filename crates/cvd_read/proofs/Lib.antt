@@ -1,0 +1,9 @@
+pub mod Plain
+pub mod Chain
+pub mod PlainSections
+pub mod Cut
+pub mod Processes
+pub mod VarLines
+pub mod FirstLines
+pub mod SameDesign
+pub mod PieceTexts
