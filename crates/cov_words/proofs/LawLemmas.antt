@@ -11,7 +11,9 @@ use Rattle.cov_words.specs.Cut.{Piece, given, name, is_option, IsCut, no_more, a
 use Rattle.cov_words.specs.Pieces.{at_equal_sign, Opening, whole, waiting, alone, together, parted, option_opening, opening, behind, opened, cut, pieces_of}
 use Rattle.cov_words.specs.declared.table.CommandName.{CommandName}
 use Rattle.cov_words.specs.declared.table.OptionName.{OptionName}
-use Rattle.cov_words.specs.declared.table.OptionName.TheVariants.{Top, Out, Clock, Coverage, CoverageLine, CoverageToggle, CoverageUser, CoverageUnderscore, CoverageMaxWidth, CountBits, Data, Write, WriteInfo, Rank, Annotate, AnnotateAll, AnnotatePoints, AnnotateMin, FilterType}
+use Rattle.cov_words.specs.declared.table.OptionName.TheVariants.{Top, Out, Clock, Coverage, CoverageLine, CoverageToggle, CoverageUser, CoverageUnderscore}
+use Rattle.cov_words.specs.declared.table.OptionName.TheVariants.{CoverageMaxWidth, CountBits, Data, Write, WriteInfo, Rank, Annotate, AnnotateAll}
+use Rattle.cov_words.specs.declared.table.OptionName.TheVariants.{AnnotatePoints, AnnotateMin, FilterType}
 
 -- ---- words
 
@@ -31,7 +33,8 @@ if_some P o x e h = subst (λ o. IfSome o P) e h
 
 -- the word of an option that a command has
 named_word : (c : CommandName) (word : List ℕ) (o : OptionName) → option_named c word ≡ Some o → word ≡ word_of o
-named_word c word o e = same_bytes word (word_of o) (if_some (λ o. bytes_eq word (word_of o) ≡ true) (option_named c word) o e (find-passes (λ o. bytes_eq word (word_of o)) (row_of c).options))
+named_word c word o e = same_bytes word (word_of o) (if_some (λ o. bytes_eq word (word_of o)
+    ≡ true) (option_named c word) o e (find-passes (λ o. bytes_eq word (word_of o)) (row_of c).options))
 
 -- what each option's word is like: it begins with '-', is not `--`, and has no '='
 record IsOptionWord (word : List ℕ) : Type 0 where
@@ -66,7 +69,8 @@ option_word FilterType = record { dashed = refl; is_longer = refl; no_sign = ref
 no_dashes : (word : List ℕ) (p : Parts) → at_equal_sign word ≡ Some p → bytes_eq word (codes "--") ≡ false
 no_dashes word p s = false_from_ne_true _ (λ e. none-some p (sym (ap at_equal_sign (same_bytes word (codes "--") e)) ∙ s))
 
-no_option : (c : CommandName) (word : List ℕ) (p : Parts) → at_equal_sign word ≡ Some p → (found : Option OptionName) → option_named c word ≡ found → found ≡ None
+no_option : (c : CommandName) (word : List ℕ) (p : Parts) → at_equal_sign word ≡ Some p → (found : Option OptionName) → option_named c word ≡ found
+    → found ≡ None
 no_option c word p s None e = refl
 no_option c word p s (Some o) e = absurd (none-some p (sym (ap at_equal_sign (named_word c word o e) ∙ (option_word o).no_sign) ∙ s))
 
@@ -82,7 +86,8 @@ still_dashed (b ∷ b' ∷ front) value d = d
 data Begins (c : CommandName) (word : List ℕ) : Opening → Type 0 where
   as_name : is_option word ≡ false → Begins c word (whole (name word))
   as_flag : {o : OptionName} → option_named c word ≡ Some o → is_flag o ≡ true → Begins c word (whole (given o []))
-  as_valued : {o : OptionName} {value : List ℕ} (before : List ℕ) → word ≡ before ++ codes "=" ++ value → option_named c before ≡ Some o → is_flag o ≡ false → Begins c word (whole (given o value))
+  as_valued : {o : OptionName} {value : List ℕ} (before : List ℕ) → word ≡ before ++ codes "=" ++ value → option_named c before ≡ Some o → is_flag o ≡ false
+      → Begins c word (whole (given o value))
   as_waiting : {o : OptionName} → option_named c word ≡ Some o → is_flag o ≡ false → Begins c word (waiting o)
 
 abbrev BeginsIf : CommandName → List ℕ → Option Opening → Type 0
@@ -91,16 +96,19 @@ BeginsIf c word begun = IfSome begun (λ (opening : Opening). Begins c word open
 alone-begins : (c : CommandName) (word : List ℕ) (o : OptionName) → option_named c word ≡ Some o → Begins c word (alone o)
 alone-begins c word o e = cond_both (is_flag o) (whole (given o [])) (waiting o) (λ (opening : Opening). Begins c word opening) (λ f. as_flag e f) (λ f. as_waiting e f)
 
-together-begins : (c : CommandName) (word before value : List ℕ) → word ≡ before ++ 61 ∷ value → (found : Option OptionName) → option_named c before ≡ found → BeginsIf c word (option_and_then (together value) found)
+together-begins : (c : CommandName) (word before value : List ℕ) → word ≡ before ++ 61 ∷ value → (found : Option OptionName) → option_named c before ≡ found
+    → BeginsIf c word (option_and_then (together value) found)
 together-begins c word before value w None e = tt
 together-begins c word before value w (Some o) e =
-    cond_both (is_flag o) None (Some (whole (given o value))) (BeginsIf c word) (λ f. tt) (λ f. as_valued before (w ∙ sym (append_assoc before (codes "=") value)) e f)
+    cond_both (is_flag o) None (Some (whole (given o value))) (BeginsIf c word) (λ f. tt) (λ f. as_valued before (w
+    ∙ sym (append_assoc before (codes "=") value)) e f)
 
 parted-begins : (c : CommandName) (word : List ℕ) (p : Option Parts) → StandAround word p → BeginsIf c word (parted c p)
 parted-begins c word None h = tt
 parted-begins c word (Some p) h = together-begins c word p.0 p.1 h (option_named c p.0) refl
 
-option_opening-begins : (c : CommandName) (word : List ℕ) (found : Option OptionName) → option_named c word ≡ found → BeginsIf c word (option_opening c word found)
+option_opening-begins : (c : CommandName) (word : List ℕ) (found : Option OptionName) → option_named c word ≡ found
+    → BeginsIf c word (option_opening c word found)
 option_opening-begins c word None e = parted-begins c word (at_equal_sign word) (around_sign word)
 option_opening-begins c word (Some o) e = alone-begins c word o e
 
@@ -112,7 +120,8 @@ opening-begins c word =
 
 -- ---- the function gives what the relation says
 
-behind-some : (piece : Piece) (rest : Option (List Piece)) (pieces : List Piece) → behind piece rest ≡ Some pieces → (ps : List Piece) × (rest ≡ Some ps) × (piece ∷ ps ≡ pieces)
+behind-some : (piece : Piece) (rest : Option (List Piece)) (pieces : List Piece) → behind piece rest ≡ Some pieces
+    → (ps : List Piece) × (rest ≡ Some ps) × (piece ∷ ps ≡ pieces)
 behind-some piece None pieces e = absurd (none-some pieces e)
 behind-some piece (Some ps) pieces e = (ps, refl, same_Some _ _ e)
 
@@ -124,15 +133,18 @@ Means c (Some o) words pieces = (word : List ℕ) → option_named c word ≡ So
 abbrev MeansAll : CommandName → Option OptionName → List (List ℕ) → Type 0
 MeansAll c wait words = (pieces : List Piece) → cut c wait words ≡ Some pieces → Means c wait words pieces
 
-whole-means : (c : CommandName) (word : List ℕ) (words : List (List ℕ)) (piece : Piece) → Begins c word (whole piece) → (pieces : List Piece) → IsCut c words pieces → IsCut c (word ∷ words) (piece ∷ pieces)
+whole-means : (c : CommandName) (word : List ℕ) (words : List (List ℕ)) (piece : Piece) → Begins c word (whole piece) → (pieces : List Piece)
+    → IsCut c words pieces → IsCut c (word ∷ words) (piece ∷ pieces)
 whole-means c word words piece (as_name d) pieces h = a_name d h
 whole-means c word words piece (as_flag e f) pieces h = a_flag e f h
 whole-means c word words piece (as_valued before w e f) pieces h = with_value before w e f h
 
-waiting-means : (c : CommandName) (word : List ℕ) (words : List (List ℕ)) (o : OptionName) → Begins c word (waiting o) → (pieces : List Piece) → Means c (Some o) words pieces → IsCut c (word ∷ words) pieces
+waiting-means : (c : CommandName) (word : List ℕ) (words : List (List ℕ)) (o : OptionName) → Begins c word (waiting o) → (pieces : List Piece)
+    → Means c (Some o) words pieces → IsCut c (word ∷ words) pieces
 waiting-means c word words o (as_waiting e f) pieces h = h word e f
 
-opened-means : (c : CommandName) (word : List ℕ) (words : List (List ℕ)) (begun : Option Opening) → BeginsIf c word begun → MeansAll c None words → ((o : OptionName) → MeansAll c (Some o) words)
+opened-means : (c : CommandName) (word : List ℕ) (words : List (List ℕ)) (begun : Option Opening) → BeginsIf c word begun → MeansAll c None words
+    → ((o : OptionName) → MeansAll c (Some o) words)
     → (pieces : List Piece) → opened (cut c None words) (λ o. cut c (Some o) words) begun ≡ Some pieces → IsCut c (word ∷ words) pieces
 opened-means c word words None b rest wait pieces e = absurd (none-some pieces e)
 opened-means c word words (Some (whole piece)) b rest wait pieces e =
@@ -157,11 +169,13 @@ sound c words pieces e = sound_from c None words pieces e
 -- ---- the relation holds of what the function gives
 
 -- the next piece, where the first word begins it
-opened-whole : (c : CommandName) (word : List ℕ) (words : List (List ℕ)) (piece : Piece) (pieces : List Piece) → bytes_eq word (codes "--") ≡ false → opening c word ≡ Some (whole piece) → pieces_of c words ≡ Some pieces → pieces_of c (word ∷ words) ≡ Some (piece ∷ pieces)
+opened-whole : (c : CommandName) (word : List ℕ) (words : List (List ℕ)) (piece : Piece) (pieces : List Piece) → bytes_eq word (codes "--") ≡ false
+    → opening c word ≡ Some (whole piece) → pieces_of c words ≡ Some pieces → pieces_of c (word ∷ words) ≡ Some (piece ∷ pieces)
 opened-whole c word words piece pieces l b e = rw l (rw b (rw e refl))
 
 -- the next piece, where the second word is the value that the first waits for
-opened-waiting : (c : CommandName) (word value : List ℕ) (words : List (List ℕ)) (o : OptionName) (pieces : List Piece) → bytes_eq word (codes "--") ≡ false → opening c word ≡ Some (waiting o) → pieces_of c words ≡ Some pieces → pieces_of c (word ∷ value ∷ words) ≡ Some (given o value ∷ pieces)
+opened-waiting : (c : CommandName) (word value : List ℕ) (words : List (List ℕ)) (o : OptionName) (pieces : List Piece) → bytes_eq word (codes "--") ≡ false
+    → opening c word ≡ Some (waiting o) → pieces_of c words ≡ Some pieces → pieces_of c (word ∷ value ∷ words) ≡ Some (given o value ∷ pieces)
 opened-waiting c word value words o pieces l b e = rw l (rw b (rw e refl))
 
 name_opening : (c : CommandName) (word : List ℕ) → is_option word ≡ false → opening c word ≡ Some (whole (name word))
@@ -177,14 +191,17 @@ own_opening c word o e = let w = named_word c word o e in let d : is_option word
 own-no_dashes : (c : CommandName) (word : List ℕ) (o : OptionName) → option_named c word ≡ Some o → bytes_eq word (codes "--") ≡ false
 own-no_dashes c word o e = ap (λ (w : List ℕ). bytes_eq w (codes "--")) (named_word c word o e) ∙ (option_word o).is_longer
 
-valued_sign : (c : CommandName) (word before value : List ℕ) (o : OptionName) → word ≡ before ++ codes "=" ++ value → option_named c before ≡ Some o → at_equal_sign word ≡ Some (before, value)
+valued_sign : (c : CommandName) (word before value : List ℕ) (o : OptionName) → word ≡ before ++ codes "=" ++ value → option_named c before ≡ Some o
+    → at_equal_sign word ≡ Some (before, value)
 valued_sign c word before value o w e =
     ap at_equal_sign (w ∙ append_assoc before (codes "=") value) ∙ sign_at before value (ap at_equal_sign (named_word c before o e) ∙ (option_word o).no_sign)
 
-valued_opening : (c : CommandName) (word before value : List ℕ) (o : OptionName) → word ≡ before ++ codes "=" ++ value → option_named c before ≡ Some o → is_flag o ≡ false → opening c word ≡ Some (whole (given o value))
+valued_opening : (c : CommandName) (word before value : List ℕ) (o : OptionName) → word ≡ before ++ codes "=" ++ value → option_named c before ≡ Some o
+    → is_flag o ≡ false → opening c word ≡ Some (whole (given o value))
 valued_opening c word before value o w e f =
     let s = valued_sign c word before value o w e in
-    let d : is_option word ≡ true = ap is_option (w ∙ append_assoc before (codes "=") value) ∙ still_dashed before (61 ∷ value) (ap is_option (named_word c before o e) ∙ (option_word o).dashed) in
+    let d : is_option word ≡ true = ap is_option (w ∙ append_assoc before (codes "=") value)
+    ∙ still_dashed before (61 ∷ value) (ap is_option (named_word c before o e) ∙ (option_word o).dashed) in
     rw d (rw (no_option c word (before, value) s (option_named c word) refl) (rw s (rw e (rw f refl))))
 
 pub complete : (c : CommandName) (words : List (List ℕ)) (pieces : List Piece) → IsCut c words pieces → pieces_of c words ≡ Some pieces

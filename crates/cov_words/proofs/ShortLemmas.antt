@@ -19,7 +19,8 @@ behind-short : (n : ℕ) (piece : Piece) (rest : Option (List Piece)) → IsShor
 behind-short n piece None h = tt
 behind-short n piece (Some pieces) h = omega arith
 
-opened-short : (n : ℕ) (rest : Option (List Piece)) (wait : OptionName → Option (List Piece)) (begun : Option Opening) → IsShort n rest → ((o : OptionName) → IsShort (suc n) (wait o)) → IsShort (suc n) (opened rest wait begun)
+opened-short : (n : ℕ) (rest : Option (List Piece)) (wait : OptionName → Option (List Piece)) (begun : Option Opening) → IsShort n rest → ((o : OptionName)
+    → IsShort (suc n) (wait o)) → IsShort (suc n) (opened rest wait begun)
 opened-short n rest wait None h k = tt
 opened-short n rest wait (Some (whole piece)) h k = behind-short n piece rest h
 opened-short n rest wait (Some (waiting o)) h k = k o

@@ -1,5 +1,6 @@
 -- A word at its first '='.
-use Rattle.std.proofs.Common.{◌≡◌, ◌≢◌, ℕ, suc, ◌<◌, Bool, true, false, List, [], ◌∷◌, ◌++◌, Option, None, Some, Bor, length, get_or, eqb, refl, sym, ◌∙◌, ap, arith}
+use Rattle.std.proofs.Common.{◌≡◌, ◌≢◌, ℕ, suc, ◌<◌, Bool, true, false, List, [], ◌∷◌, ◌++◌, Option, None, Some, Bor, length, get_or, eqb, refl, sym, ◌∙◌, ap}
+use Rattle.std.proofs.Common.{arith}
 use Rattle.std.specs.Prelude.{IfSome, MatchOption, option_map, if◌then◌else◌}
 use Rattle.std.proofs.lemmas.Bool.{eqb-true, ne_eqb}
 use Rattle.std.proofs.lemmas.Option.{none-some}
@@ -54,6 +55,7 @@ abbrev seen : Option (Bor (List ℕ) × Bor (List ℕ)) → Option Parts
 seen r = option_map (λ p. (p.0.now, p.1.now)) r
 
 -- what a split gives is what stands around the first '='
-pub split_at : (bs : List ℕ) (r : Option (Bor (List ℕ) × Bor (List ℕ))) → MatchOption r (HasNone bs) (λ x. (bs ≡ x.0.now ++ (61 ∷ x.1.now)) × HasNone x.0.now) → seen r ≡ at_equal_sign bs
+pub split_at : (bs : List ℕ) (r : Option (Bor (List ℕ) × Bor (List ℕ)))
+    → MatchOption r (HasNone bs) (λ x. (bs ≡ x.0.now ++ (61 ∷ x.1.now)) × HasNone x.0.now) → seen r ≡ at_equal_sign bs
 split_at bs None h = sym (none_at bs h)
 split_at bs (Some x) h = sym (ap at_equal_sign h.0 ∙ sign_at x.0.now x.1.now (none_at x.0.now h.1))

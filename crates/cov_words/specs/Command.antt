@@ -1,5 +1,6 @@
 -- The command that the words of a command line spell (docs/commands.md, "Words").
-use Rattle.std.specs.Prelude.{ℕ, ◌^◌, ◌-◌, ◌&&◌, ◌||◌, Bool, true, not, nat_le, is_some, List, [], ◌∷◌, length, Option, None, Some, option_map, option_and_then, if◌then◌else◌}
+use Rattle.std.specs.Prelude.{ℕ, ◌^◌, ◌-◌, ◌&&◌, ◌||◌, Bool, true, not, nat_le, is_some, List, [], ◌∷◌, length, Option, None, Some, option_map, option_and_then}
+use Rattle.std.specs.Prelude.{if◌then◌else◌}
 use Rattle.std.specs.List.{list_all, filter_map}
 use Rattle.std.specs.Str.{bytes_eq}
 use Rattle.cov_port.specs.Decimal.{decimal_of}
@@ -10,7 +11,9 @@ use Rattle.cov_words.specs.Pieces.{pieces_of}
 use Rattle.cov_words.specs.declared.table.CommandName.{CommandName}
 use Rattle.cov_words.specs.declared.table.CommandName.TheVariants.{Check, Build, Sim, Cover, SelfTest}
 use Rattle.cov_words.specs.declared.table.OptionName.{OptionName}
-use Rattle.cov_words.specs.declared.table.OptionName.TheVariants.{Top, Out, Clock, Coverage, CoverageLine, CoverageToggle, CoverageUser, CoverageUnderscore, CoverageMaxWidth, CountBits, Data, Write, WriteInfo, Rank, Annotate, AnnotateAll, AnnotatePoints, AnnotateMin, FilterType}
+use Rattle.cov_words.specs.declared.table.OptionName.TheVariants.{Top, Out, Clock, Coverage, CoverageLine, CoverageToggle, CoverageUser, CoverageUnderscore}
+use Rattle.cov_words.specs.declared.table.OptionName.TheVariants.{CoverageMaxWidth, CountBits, Data, Write, WriteInfo, Rank, Annotate, AnnotateAll}
+use Rattle.cov_words.specs.declared.table.OptionName.TheVariants.{AnnotatePoints, AnnotateMin, FilterType}
 
 -- what `build` is asked for; an option that isn't given has nothing
 pub record Building : Type 0 where

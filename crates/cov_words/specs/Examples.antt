@@ -45,7 +45,8 @@ no_stimulus : command_of (codes "sim" ∷ codes "a.cvd" ∷ []) ≡ None
 no_stimulus = refl
 
 -- options and names in any order
-mixed : command_of (codes "build" ∷ codes "--top=x" ∷ codes "x.v" ∷ codes "--out" ∷ codes "o.cvd" ∷ codes "y.v" ∷ []) ≡ Some (build (built (codes "x") (codes "o.cvd") (codes "x.v" ∷ codes "y.v" ∷ [])))
+mixed : command_of (codes "build" ∷ codes "--top=x" ∷ codes "x.v" ∷ codes "--out" ∷ codes "o.cvd" ∷ codes "y.v" ∷ [])
+    ≡ Some (build (built (codes "x") (codes "o.cvd") (codes "x.v" ∷ codes "y.v" ∷ [])))
 unfolding is_identifier is_spelled begins_with_name begins_name continues_name word_of
 mixed = refl
 

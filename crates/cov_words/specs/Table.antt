@@ -6,7 +6,9 @@ use Rattle.cov_words.specs.Values.{is_name, is_pattern, number_in}
 use Rattle.cov_words.specs.declared.table.CommandName.{CommandName}
 use Rattle.cov_words.specs.declared.table.CommandName.TheVariants.{Check, Build, Sim, Cover, SelfTest}
 use Rattle.cov_words.specs.declared.table.OptionName.{OptionName}
-use Rattle.cov_words.specs.declared.table.OptionName.TheVariants.{Top, Out, Clock, Coverage, CoverageLine, CoverageToggle, CoverageUser, CoverageUnderscore, CoverageMaxWidth, CountBits, Data, Write, WriteInfo, Rank, Annotate, AnnotateAll, AnnotatePoints, AnnotateMin, FilterType}
+use Rattle.cov_words.specs.declared.table.OptionName.TheVariants.{Top, Out, Clock, Coverage, CoverageLine, CoverageToggle, CoverageUser, CoverageUnderscore}
+use Rattle.cov_words.specs.declared.table.OptionName.TheVariants.{CoverageMaxWidth, CountBits, Data, Write, WriteInfo, Rank, Annotate, AnnotateAll}
+use Rattle.cov_words.specs.declared.table.OptionName.TheVariants.{AnnotatePoints, AnnotateMin, FilterType}
 use Rattle.cov_words.specs.declared.table.Takes.{Takes}
 use Rattle.cov_words.specs.declared.table.Takes.TheVariants.{Nothing, Name, Identifier, Pattern, Number}
 

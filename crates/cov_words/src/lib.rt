@@ -13,6 +13,6 @@ mod table;
 mod values;
 
 pub use command::{Build, Command, Cover, Sim};
-pub use law::pieces_are_the_cut;
+pub use law::{count_bits_are_in_range, pieces_are_the_cut};
 pub use names::Names;
 pub use reading::read_words;

@@ -10,5 +10,7 @@ overflow_add-count c =
     let names = names-short c.args.self.now in
     let short = c.pieces-piece-items.ensures.short in
     let counted = c.loop-piece.invariant.2 in
-    let more : length (names_of c.loop-piece.piece-iterator) ≡ suc (length (names_of c.next.new.self)) = ap (λ (ps : List Piece). length (names_of ps)) (c.in-Some.ensures.steps ∙ ap (λ p. seen_piece p ∷ c.next.new.self) c.in-Name.is) in
+    let more : length (names_of c.loop-piece.piece-iterator)
+    ≡ suc (length (names_of c.next.new.self)) = ap (λ (ps : List Piece). length (names_of ps)) (c.in-Some.ensures.steps
+    ∙ ap (λ p. seen_piece p ∷ c.next.new.self) c.in-Name.is) in
     omega arith

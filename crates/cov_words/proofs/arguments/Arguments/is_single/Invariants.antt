@@ -7,4 +7,5 @@ abbrev pub invariant-loop-piece : goal.invariant-loop-piece
 invariant-loop-piece l =
     (goal.iterator-loop-piece).can_next l.piece-iterator ×
     (goal.iterator-loop-piece).is_finite l.piece-iterator ×
-    ((if l.seen then nat_le (length (values_of l.option l.piece-iterator)) 0 else nat_le (length (values_of l.option l.piece-iterator)) 1) ≡ nat_le (length (values_of l.option l.fn.self)) 1)
+    ((if l.seen then nat_le (length (values_of l.option l.piece-iterator)) 0 else nat_le (length (values_of l.option l.piece-iterator)) 1)
+    ≡ nat_le (length (values_of l.option l.fn.self)) 1)
