@@ -1,5 +1,6 @@
 //! Expressions, by precedence climbing. The functions are named as what they read; `depth` is how deep expressions may
-//! nest in what is read, and a level is that of a binary operator.
+//! nest in what is read, and a level is that of a binary operator. What is read is held on the heap, where the node around
+//! it wants it.
 
 ghost use Rattle.std.specs.Prelude.{◌≡◌, ◌∷◌, [], Some};
 ghost use Rattle.vlog_reading.specs.ReadExpressions as spec;
@@ -7,11 +8,9 @@ ghost use Rattle.vlog_reading.specs.ReadParts as parts;
 ghost use Rattle.vlog_reading.specs.Reading.{Reads};
 ghost use Rattle.vlog_cursor.specs.Words.{kind_of};
 
-use crate::node::{
-    between, binary, call, choose, down, only, position, repeat, selected, unary, up,
-};
+use crate::node::{only, selected};
 use cov_types::ByteText;
-use sqlite_items::Items;
+use sqlite_items::{Boxed, Items};
 use std::alloc::Global;
 use vlog_cursor::{Cursor, Word, copied_text, prefix, system_call};
 use vlog_reading::ReadFault;
@@ -26,7 +25,7 @@ fn nested_before(
     tokens: &mut Cursor<'_>,
     depth: usize,
     close: Word,
-) -> Result<Expr, ReadFault>
+) -> Result<Boxed<Expr>, ReadFault>
     ensures { Reads (spec.nested_before (spec.expr depth) (kind_of close) tokens.old) result tokens.new }
 {
     let inner = expr(alloc, tokens, depth, 1)?;
@@ -46,7 +45,8 @@ fn list(
     ensures { Reads (spec.list (spec.expr depth) found tokens.old) result tokens.new }
 {
     for _turn in 0..tokens.left() {
-        found.push(expr(alloc, tokens, depth, 1)?)?;
+        let next = expr(alloc, tokens, depth, 1)?;
+        found.push(next.into_inner())?;
         if !tokens.eat(Word::Comma) {
             return Ok(found);
         }
@@ -61,14 +61,14 @@ fn repeated(
     alloc: Global,
     tokens: &mut Cursor<'_>,
     depth: usize,
-    count: Expr,
+    count: Boxed<Expr>,
 ) -> Result<Expr, ReadFault>
     ensures { Reads (spec.repeated (spec.expr depth) count tokens.old) result tokens.new }
 {
     let parts = list(alloc, tokens, depth, Items::new(alloc))?;
     tokens.expect(Word::CloseBrace)?;
     tokens.expect(Word::CloseBrace)?;
-    Ok(repeat(alloc, count, parts)?)
+    Ok(Expr::Repeat { count, parts })
 }
 
 /// The parts of a concatenation, of which the first has been read.
@@ -78,11 +78,11 @@ fn others(
     alloc: Global,
     tokens: &mut Cursor<'_>,
     depth: usize,
-    first: Expr,
+    first: Boxed<Expr>,
 ) -> Result<Items<Expr>, ReadFault>
     ensures { Reads (spec.others (spec.expr depth) first tokens.old) result tokens.new }
 {
-    let all = only(alloc, first)?;
+    let all = only(alloc, first.into_inner())?;
     if !tokens.eat(Word::Comma) {
         return Ok(all);
     }
@@ -96,7 +96,7 @@ fn joined(
     alloc: Global,
     tokens: &mut Cursor<'_>,
     depth: usize,
-    first: Expr,
+    first: Boxed<Expr>,
 ) -> Result<Expr, ReadFault>
     ensures { Reads (spec.joined (spec.expr depth) first tokens.old) result tokens.new }
 {
@@ -125,17 +125,17 @@ fn slice_by_width(
     alloc: Global,
     tokens: &mut Cursor<'_>,
     depth: usize,
-    first: Expr,
+    first: Boxed<Expr>,
 ) -> Result<Select, ReadFault>
     ensures { Reads (spec.slice_by_width (spec.expr depth) first tokens.old) result tokens.new }
 {
     if tokens.eat(Word::PlusColon) {
         let width = nested_before(alloc, tokens, depth, Word::CloseBracket)?;
-        return Ok(up(alloc, first, width)?);
+        return Ok(Select::Up(first, width));
     }
     tokens.expect(Word::MinusColon)?;
     let width = nested_before(alloc, tokens, depth, Word::CloseBracket)?;
-    Ok(down(alloc, first, width)?)
+    Ok(Select::Down(first, width))
 }
 
 /// What follows the first expression of a select that takes several bits.
@@ -145,7 +145,7 @@ fn slice(
     alloc: Global,
     tokens: &mut Cursor<'_>,
     depth: usize,
-    first: Expr,
+    first: Boxed<Expr>,
 ) -> Result<Select, ReadFault>
     ensures { Reads (spec.slice (spec.expr depth) first tokens.old) result tokens.new }
 {
@@ -153,7 +153,7 @@ fn slice(
         return slice_by_width(alloc, tokens, depth, first);
     }
     let low = nested_before(alloc, tokens, depth, Word::CloseBracket)?;
-    Ok(between(alloc, first, low)?)
+    Ok(Select::Between(first, low))
 }
 
 /// A select of any form, after its bracket.
@@ -164,7 +164,7 @@ fn select(alloc: Global, tokens: &mut Cursor<'_>, depth: usize) -> Result<Select
 {
     let first = expr(alloc, tokens, depth, 1)?;
     if tokens.eat(Word::CloseBracket) {
-        return Ok(position(alloc, first)?);
+        return Ok(Select::At(first));
     }
     slice(alloc, tokens, depth, first)
 }
@@ -183,8 +183,9 @@ fn second_select(
     if !tokens.eat(Word::OpenBracket) {
         return Ok(base);
     }
-    let some = select(alloc, tokens, depth)?;
-    Ok(selected(alloc, base, some)?)
+    let base = Boxed::new(alloc, base)?;
+    let select = select(alloc, tokens, depth)?;
+    Ok(Expr::Select { base, select })
 }
 
 /// The part of a name, after its first bracket.
@@ -200,7 +201,7 @@ fn part_after_bracket(
 {
     let first = expr(alloc, tokens, depth, 1)?;
     if tokens.eat(Word::CloseBracket) {
-        let base = selected(alloc, Expr::Name(name), position(alloc, first)?)?;
+        let base = selected(alloc, Expr::Name(name), Select::At(first))?;
         return second_select(alloc, tokens, depth, base);
     }
     let some = slice(alloc, tokens, depth, first)?;
@@ -236,7 +237,7 @@ fn system_function(
 {
     tokens.expect(Word::OpenParen)?;
     let of = nested_before(alloc, tokens, depth, Word::CloseParen)?;
-    Ok(call(alloc, name, of)?)
+    Ok(Expr::Call { name, of })
 }
 
 /// A primary with the unary operators before it.
@@ -280,7 +281,8 @@ fn unary_or_primary(alloc: Global, tokens: &mut Cursor<'_>, depth: usize) -> Res
         },
         TokenKind::OpenParen => {
             tokens.skip();
-            nested_before(alloc, tokens, depth, Word::CloseParen)
+            let inner = nested_before(alloc, tokens, depth, Word::CloseParen)?;
+            Ok(inner.into_inner())
         }
         TokenKind::OpenBrace => {
             tokens.skip();
@@ -291,7 +293,7 @@ fn unary_or_primary(alloc: Global, tokens: &mut Cursor<'_>, depth: usize) -> Res
             Some(op) => {
                 tokens.skip();
                 let of = expr(alloc, tokens, depth, 12)?;
-                Ok(unary(alloc, op, of)?)
+                Ok(Expr::Unary { op, of })
             }
         },
     }
@@ -305,8 +307,8 @@ fn binary_rest(
     tokens: &mut Cursor<'_>,
     depth: usize,
     least: usize,
-    mut left: Expr,
-) -> Result<Expr, ReadFault>
+    mut left: Boxed<Expr>,
+) -> Result<Boxed<Expr>, ReadFault>
     ensures { Reads (spec.binary_rest (spec.expr depth) least left tokens.old) result tokens.new }
 {
     for _turn in 0..tokens.left() + 1 {
@@ -318,7 +320,7 @@ fn binary_rest(
         }
         tokens.skip();
         let right = expr(alloc, tokens, depth, level + 1)?;
-        left = binary(alloc, op, left, right)?;
+        left = Boxed::new(alloc, Expr::Binary { op, left, right })?;
     }
     Err(ReadFault::Syntax)
 }
@@ -330,8 +332,8 @@ fn conditional_rest(
     alloc: Global,
     tokens: &mut Cursor<'_>,
     depth: usize,
-    test: Expr,
-) -> Result<Expr, ReadFault>
+    test: Boxed<Expr>,
+) -> Result<Boxed<Expr>, ReadFault>
     ensures { Reads (spec.conditional_rest (spec.expr depth) test tokens.old) result tokens.new }
 {
     if !tokens.eat(Word::Question) {
@@ -339,7 +341,7 @@ fn conditional_rest(
     }
     let yes = nested_before(alloc, tokens, depth, Word::Colon)?;
     let no = expr(alloc, tokens, depth, 1)?;
-    Ok(choose(alloc, test, yes, no)?)
+    Ok(Boxed::new(alloc, Expr::Choose { test, yes, no })?)
 }
 
 /// An expression of at least this level.
@@ -350,10 +352,10 @@ fn at_level(
     tokens: &mut Cursor<'_>,
     depth: usize,
     least: usize,
-) -> Result<Expr, ReadFault>
+) -> Result<Boxed<Expr>, ReadFault>
     ensures { Reads (spec.at_level (spec.expr depth) least tokens.old) result tokens.new }
 {
-    let first = unary_or_primary(alloc, tokens, depth)?;
+    let first = Boxed::new(alloc, unary_or_primary(alloc, tokens, depth)?)?;
     let all = binary_rest(alloc, tokens, depth, least.max(2), first)?;
     if least < 2 {
         conditional_rest(alloc, tokens, depth, all)
@@ -370,7 +372,7 @@ fn expr(
     tokens: &mut Cursor<'_>,
     depth: usize,
     least: usize,
-) -> Result<Expr, ReadFault>
+) -> Result<Boxed<Expr>, ReadFault>
     ensures { Reads (spec.expr depth least tokens.old) result tokens.new }
 {
     if depth == 0 {
@@ -379,13 +381,24 @@ fn expr(
     at_level(alloc, tokens, depth - 1, least)
 }
 
-/// An expression with whatever is in it.
+/// An expression with whatever is in it, on the heap.
 #[tactic(auto, unfolding(vlog_reading::specs::ReadExpressions::expression))]
-pub fn expression(alloc: Global, tokens: &mut Cursor<'_>) -> Result<Expr, ReadFault>
+pub(crate) fn boxed_expression(
+    alloc: Global,
+    tokens: &mut Cursor<'_>,
+) -> Result<Boxed<Expr>, ReadFault>
     ensures { Reads (spec.expression tokens.old) result tokens.new }
 {
     let depth = tokens.left();
     expr(alloc, tokens, depth, 1)
+}
+
+/// An expression with whatever is in it.
+pub fn expression(alloc: Global, tokens: &mut Cursor<'_>) -> Result<Expr, ReadFault>
+    ensures { Reads (spec.expression tokens.old) result tokens.new }
+{
+    let whole = boxed_expression(alloc, tokens)?;
+    Ok(whole.into_inner())
 }
 
 /// After a name: the part of it that is written to.

@@ -6,8 +6,9 @@ ghost use Rattle.vlog_reading.specs.ReadStatements as statements;
 ghost use Rattle.vlog_reading.specs.Reading.{Reads};
 ghost use Rattle.vlog_cursor.specs.Words.{kind_of};
 
-use crate::expressions::expression;
+use crate::expressions::{boxed_expression, expression};
 use cov_types::ByteText;
+use sqlite_items::Boxed;
 use std::alloc::Global;
 use vlog_cursor::{Cursor, Rule, Word, copied_text};
 use vlog_reading::{ForHead, ReadFault};
@@ -45,8 +46,21 @@ pub fn name_token(alloc: Global, tokens: &mut Cursor<'_>) -> Result<ByteText, Re
     }
 }
 
-/// An expression, and the mark after it.
+/// An expression on the heap, and the mark after it.
 #[tactic(auto, unfolding(vlog_reading::specs::ReadParts::expression_before))]
+fn boxed_before(
+    alloc: Global,
+    tokens: &mut Cursor<'_>,
+    close: Word,
+) -> Result<Boxed<Expr>, ReadFault>
+    ensures { Reads (spec.expression_before (kind_of close) tokens.old) result tokens.new }
+{
+    let inner = boxed_expression(alloc, tokens)?;
+    tokens.expect(close)?;
+    Ok(inner)
+}
+
+/// An expression, and the mark after it.
 pub fn expression_before(
     alloc: Global,
     tokens: &mut Cursor<'_>,
@@ -54,9 +68,8 @@ pub fn expression_before(
 ) -> Result<Expr, ReadFault>
     ensures { Reads (spec.expression_before (kind_of close) tokens.old) result tokens.new }
 {
-    let inner = expression(alloc, tokens)?;
-    tokens.expect(close)?;
-    Ok(inner)
+    let inner = boxed_before(alloc, tokens, close)?;
+    Ok(inner.into_inner())
 }
 
 /// An expression in parentheses.
@@ -73,12 +86,12 @@ fn bound_name(
     alloc: Global,
     tokens: &mut Cursor<'_>,
     close: Word,
-) -> Result<(ByteText, Expr), ReadFault>
+) -> Result<(ByteText, Boxed<Expr>), ReadFault>
     ensures { Reads (spec.bound_name (kind_of close) tokens.old) result tokens.new }
 {
     let name = name_token(alloc, tokens)?;
     tokens.expect(Word::EqualSign)?;
-    let value = expression_before(alloc, tokens, close)?;
+    let value = boxed_before(alloc, tokens, close)?;
     Ok((name, value))
 }
 
@@ -89,13 +102,13 @@ pub fn for_head(alloc: Global, tokens: &mut Cursor<'_>) -> Result<ForHead, ReadF
 {
     tokens.expect(Word::OpenParen)?;
     let (name, from) = bound_name(alloc, tokens, Word::Semicolon)?;
-    let test = expression_before(alloc, tokens, Word::Semicolon)?;
+    let test = boxed_before(alloc, tokens, Word::Semicolon)?;
     let (step_name, step) = bound_name(alloc, tokens, Word::CloseParen)?;
     Ok(ForHead {
         name,
-        from,
-        test,
+        from: from.into_inner(),
+        test: test.into_inner(),
         step_name,
-        step,
+        step: step.into_inner(),
     })
 }

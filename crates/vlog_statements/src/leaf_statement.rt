@@ -4,6 +4,7 @@ ghost use Rattle.vlog_reading.specs.ReadStatements as spec;
 ghost use Rattle.vlog_reading.specs.Reading.{Reads, rest_of};
 
 use cov_types::{ByteText, Rows};
+use sqlite_items::Boxed;
 use std::alloc::Global;
 use vlog_cursor::{Cursor, Rule, Word, copied_text, separated};
 use vlog_expressions::{ExprRule, expression, expression_before, name_token, whole_target};
@@ -180,12 +181,19 @@ pub fn system_task(
 
 /// `= value;`, after the target of a blocking assignment.
 #[tactic(auto, unfolding(vlog_reading::specs::ReadStatements::blocking))]
-fn blocking(alloc: Global, tokens: &mut Cursor<'_>, target: Expr) -> Result<StmtKind, ReadFault>
+fn blocking(
+    alloc: Global,
+    tokens: &mut Cursor<'_>,
+    target: Boxed<Expr>,
+) -> Result<StmtKind, ReadFault>
     ensures { Reads (spec.blocking target tokens.old) result tokens.new }
 {
     tokens.expect(Word::EqualSign)?;
     let value = expression_before(alloc, tokens, Word::Semicolon)?;
-    Ok(StmtKind::Set { target, value })
+    Ok(StmtKind::Set {
+        target: target.into_inner(),
+        value,
+    })
 }
 
 /// An assignment, blocking or not.
@@ -193,12 +201,15 @@ fn blocking(alloc: Global, tokens: &mut Cursor<'_>, target: Expr) -> Result<Stmt
 pub fn assignment(alloc: Global, tokens: &mut Cursor<'_>) -> Result<StmtKind, ReadFault>
     ensures { Reads (spec.assignment tokens.old) result tokens.new }
 {
-    let target = whole_target(alloc, tokens)?;
+    let target = Boxed::new(alloc, whole_target(alloc, tokens)?)?;
     if !tokens.eat(Word::LessOrEqual) {
         return blocking(alloc, tokens, target);
     }
     let value = expression_before(alloc, tokens, Word::Semicolon)?;
-    Ok(StmtKind::Later { target, value })
+    Ok(StmtKind::Later {
+        target: target.into_inner(),
+        value,
+    })
 }
 
 /// The name of a block, which the tree doesn't have.

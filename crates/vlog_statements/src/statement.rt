@@ -66,10 +66,14 @@ fn else_part(
 fn if_statement(alloc: Global, tokens: &mut Cursor<'_>, depth: usize) -> Result<StmtKind, ReadFault>
     ensures { Reads (spec.if_statement (spec.statement depth) tokens.old) result tokens.new }
 {
-    let on = condition(alloc, tokens)?;
+    let on = Boxed::new(alloc, condition(alloc, tokens)?)?;
     let yes = Boxed::new(alloc, statement(alloc, tokens, depth)?)?;
     let no = else_part(alloc, tokens, depth)?;
-    Ok(StmtKind::If { test: on, yes, no })
+    Ok(StmtKind::If {
+        test: on.into_inner(),
+        yes,
+        no,
+    })
 }
 
 /// A `for`: its head and its body.
@@ -82,8 +86,9 @@ fn for_statement(
 ) -> Result<StmtKind, ReadFault>
     ensures { Reads (spec.for_statement (spec.statement depth) tokens.old) result tokens.new }
 {
-    let head = for_head(alloc, tokens)?;
+    let head = Boxed::new(alloc, for_head(alloc, tokens)?)?;
     let body = Boxed::new(alloc, statement(alloc, tokens, depth)?)?;
+    let head = head.into_inner();
     Ok(StmtKind::For {
         name: head.name,
         from: head.from,
@@ -182,10 +187,14 @@ fn case_statement(
 ) -> Result<StmtKind, ReadFault>
     ensures { Reads (spec.case_statement (spec.statement depth) wild tokens.old) result tokens.new }
 {
-    let on = condition(alloc, tokens)?;
+    let on = Boxed::new(alloc, condition(alloc, tokens)?)?;
     let arms = arms(alloc, tokens, depth, wild)?;
     tokens.expect(Word::EndCase)?;
-    Ok(StmtKind::Case { wild, on, arms })
+    Ok(StmtKind::Case {
+        wild,
+        on: on.into_inner(),
+        arms,
+    })
 }
 
 /// A statement from its first token on.

@@ -2,7 +2,6 @@
 #![tactic(auto)]
 
 mod script;
-mod shown;
 mod token_list;
 mod tree;
 

@@ -1,9 +1,9 @@
 //! What a text is read as.
 
-use crate::shown::Shown;
 use crate::token_list::{fault_told, read_tokens};
 use anyhow::anyhow;
 use std::alloc::Global;
+use tree_text::file_text;
 use vlog_parser::{SyntaxFault, parse};
 use vlog_tree::SourceFile;
 
@@ -32,11 +32,7 @@ fn read_text(alloc: Global, text: &[u8]) -> anyhow::Result<Reading> {
 /// The tree of a text written down, or the line and column where it is refused, or the fault of its tokens.
 pub(crate) fn tree_told(alloc: Global, text: &[u8]) -> anyhow::Result<String> {
     match read_text(alloc, text)? {
-        Reading::Tree(file) => {
-            let mut shown = Shown::new(alloc);
-            shown.file(&file)?;
-            Ok(shown.into_text())
-        }
+        Reading::Tree(file) => Ok(file_text(alloc, &file)?),
         Reading::Refused(told) => Ok(told),
     }
 }

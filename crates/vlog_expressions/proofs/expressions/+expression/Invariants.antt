@@ -60,4 +60,5 @@ abbrev pub invariant-list-loop-turn : goal.invariant-list-loop-turn
 invariant-list-loop-turn l = list (expr l.depth) l.fn.found l.fn.tokens ≡ list_from (expr l.depth) (l._turn-end - l._turn) l.found l.tokens
 
 abbrev pub invariant-binary_rest-loop-turn : goal.invariant-binary_rest-loop-turn
-invariant-binary_rest-loop-turn l = binary_rest (expr l.depth) l.least l.fn.left l.fn.tokens ≡ climb (expr l.depth) l.least (l._turn-end - l._turn) l.left l.tokens
+invariant-binary_rest-loop-turn l = binary_rest (expr l.depth) l.least l.fn.left l.fn.tokens
+    ≡ climb (expr l.depth) l.least (l._turn-end - l._turn) l.left l.tokens
