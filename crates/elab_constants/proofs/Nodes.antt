@@ -114,12 +114,15 @@ module _ (env : Environment) where
 
   pub in_between : (s : Select) (a b : Expr) → s ≡ select.Between a b → (read_select env s).wrong ≡ either_wrong (read env a).wrong (read env b).wrong
   in_between s a b h =
-      ap (λ (l : ReadSelect). l.wrong) (ap (read_select env) h ∙ ap (read_select env) (sym (select.rolls-Between a b)) ∙ fold-roll-Select Read ReadSelect (node env) part (o.Between a b))
+      ap (λ (l : ReadSelect). l.wrong) (ap (read_select env) h ∙ ap (read_select env) (sym (select.rolls-Between a b))
+      ∙ fold-roll-Select Read ReadSelect (node env) part (o.Between a b))
 
   pub in_up : (s : Select) (a b : Expr) → s ≡ select.Up a b → (read_select env s).wrong ≡ either_wrong (read env a).wrong (read env b).wrong
   in_up s a b h =
-      ap (λ (l : ReadSelect). l.wrong) (ap (read_select env) h ∙ ap (read_select env) (sym (select.rolls-Up a b)) ∙ fold-roll-Select Read ReadSelect (node env) part (o.Up a b))
+      ap (λ (l : ReadSelect). l.wrong) (ap (read_select env) h ∙ ap (read_select env) (sym (select.rolls-Up a b))
+      ∙ fold-roll-Select Read ReadSelect (node env) part (o.Up a b))
 
   pub in_down : (s : Select) (a b : Expr) → s ≡ select.Down a b → (read_select env s).wrong ≡ either_wrong (read env a).wrong (read env b).wrong
   in_down s a b h =
-      ap (λ (l : ReadSelect). l.wrong) (ap (read_select env) h ∙ ap (read_select env) (sym (select.rolls-Down a b)) ∙ fold-roll-Select Read ReadSelect (node env) part (o.Down a b))
+      ap (λ (l : ReadSelect). l.wrong) (ap (read_select env) h ∙ ap (read_select env) (sym (select.rolls-Down a b))
+      ∙ fold-roll-Select Read ReadSelect (node env) part (o.Down a b))

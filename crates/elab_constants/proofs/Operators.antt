@@ -2,7 +2,8 @@
 use Rattle.std.proofs.Common.{◌≡◌, refl, false, []}
 use Rattle.bit_values.specs.Values as value
 use Rattle.vlog_tree.specs.declared.operator.UnaryOp.{UnaryOp}
-use Rattle.vlog_tree.specs.declared.operator.UnaryOp.TheVariants.{Plus, Minus, LogicalNot, Complement, ReduceAnd, ReduceNand, ReduceOr, ReduceNor, ReduceXor, ReduceTildeCaret, ReduceCaretTilde}
+use Rattle.vlog_tree.specs.declared.operator.UnaryOp.TheVariants.{Plus, Minus, LogicalNot, Complement, ReduceAnd, ReduceNand, ReduceOr, ReduceNor, ReduceXor}
+use Rattle.vlog_tree.specs.declared.operator.UnaryOp.TheVariants.{ReduceTildeCaret, ReduceCaretTilde}
 use Rattle.vlog_tree.specs.declared.operator.BinaryOp.{BinaryOp}
 use Rattle.vlog_tree.specs.declared.operator.BinaryOp.TheVariants as b
 use Rattle.source_meaning.specs.Meaning.{Meaning, own}

@@ -1,5 +1,6 @@
 -- What reading the parts of an expression gives for the whole.
-use Rattle.std.proofs.Common.{◌≡◌, ◌∙◌, sym, ap, refl, subst, ℕ, ◌≤◌, Bool, true, false, ◌||◌, ◌&&◌, not, List, [], ◌∷◌, ◌++◌, Some, None, Result, Ok, Err, pos, int_le, rules}
+use Rattle.std.proofs.Common.{◌≡◌, ◌∙◌, sym, ap, refl, subst, ℕ, ◌≤◌, Bool, true, false, ◌||◌, ◌&&◌, not, List, [], ◌∷◌, ◌++◌, Some, None, Result, Ok, Err, pos}
+use Rattle.std.proofs.Common.{int_le, rules}
 use Rattle.std.proofs.lemmas.List.{map-append}
 use Rattle.vlog_tree.specs.declared.operator.UnaryOp.{UnaryOp}
 use Rattle.vlog_tree.specs.declared.operator.BinaryOp.{BinaryOp}
@@ -195,7 +196,8 @@ repeat_fails env r rs x y all f e g h k =
 
 pub repeat_reads : (env : Environment) (r : Read) (rs : List Read) (x : Result ℕ ConstantFault) (y : Parts) (all : Result (ℕ × Joined) ConstantFault) (p : ℕ × Joined) (z : Reading)
     → all ≡ both x y → all ≡ Ok p → Gives (IsCount r.meaning) (count_wrong r) x → Gathers rs y
-    → (IsCount r.meaning p.0 → IsJoined (meanings rs) p.1 → first_wrong (either_wrong (count_wrong r) (any_wrong rs)) ≡ None → Reads (node env (o.Repeat r rs)) z)
+    → (IsCount r.meaning p.0 → IsJoined (meanings rs) p.1 → first_wrong (either_wrong (count_wrong r) (any_wrong rs)) ≡ None
+    → Reads (node env (o.Repeat r rs)) z)
     → Reads (node env (o.Repeat r rs)) z
 repeat_reads env r rs x y all p z e g h k make =
     by_ok (subst (Gives (λ (q : ℕ × Joined). IsCount r.meaning q.0 × IsJoined (meanings rs) q.1) (either_wrong (count_wrong r) (any_wrong rs))) (sym e ∙ g)

@@ -48,7 +48,8 @@ own_is m t s =
     ap (λ n. term_value n t.signed t.term) s.size ∙ ap (λ b. term_value m.size b t.term) s.signed ∙ s.values m.size m.signed (omega arith)
 
 -- a value that is brought to its context's size
-pub by_itself_is : (w x : ℕ) (signed constant : Bool) (f : State → ℕ) (t : SizedTerm) → IsNumberOf w x signed t → f [] ≡ x → IsSized (by_itself w signed constant f) t
+pub by_itself_is : (w x : ℕ) (signed constant : Bool) (f : State → ℕ) (t : SizedTerm) → IsNumberOf w x signed t → f [] ≡ x
+    → IsSized (by_itself w signed constant f) t
 by_itself_is w x signed constant f t k e =
     record { size = k.size; signed = k.signed; values = λ n b h. k.values n b h ∙ ap (in_size w n b) (sym e) }
 

@@ -32,7 +32,7 @@ impl From<AllocError> for ConstantFault {
 }
 
 /// The one that comes first; want of memory comes before all.
-pub(crate) fn earlier(one: ConstantFault, other: ConstantFault) -> ConstantFault
+pub fn earlier(one: ConstantFault, other: ConstantFault) -> ConstantFault
     ensures { result ≡ spec.earlier one other }
 {
     match (one, other) {

@@ -13,7 +13,7 @@ mod term;
 mod unary;
 mod value;
 
-pub use fault::ConstantFault;
+pub use fault::{ConstantFault, earlier};
 pub use names::{ConstantValue, Names};
 pub use reader::read;
 pub use sized::SizedTerm;

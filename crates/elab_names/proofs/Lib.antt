@@ -1,0 +1,3 @@
+mod Agreement
+mod Tables
+mod Items

@@ -1,0 +1,4 @@
+pub mod DeclaredNames
+pub mod Meanings
+pub mod Frames
+pub mod Arms
