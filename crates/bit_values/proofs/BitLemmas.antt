@@ -1,5 +1,6 @@
 -- Laws of single bits: of sums, parts and moved numbers, and of a number made from its bits.
-use Rattle.std.proofs.Common.{◌≡◌, ℕ, zero, suc, ◌+◌, ◌-◌, ◌*◌, ◌/◌, ◌%◌, ◌^◌, ◌<◌, ◌≤◌, refl, sym, ◌∙◌, ap, arith, bit_and, bit_or, max, add-zero, inl, inr, ℤ, pos, negsuc, ◌+ℤ◌, ◌-ℤ◌, ◌<ℤ◌, ◌≤ℤ◌}
+use Rattle.std.proofs.Common.{◌≡◌, ℕ, zero, suc, ◌+◌, ◌-◌, ◌*◌, ◌/◌, ◌%◌, ◌^◌, ◌<◌, ◌≤◌, refl, sym, ◌∙◌, ap, arith, bit_and, bit_or, max, add-zero, inl, inr, ℤ}
+use Rattle.std.proofs.Common.{pos, negsuc, ◌+ℤ◌, ◌-ℤ◌, ◌<ℤ◌, ◌≤ℤ◌}
 use Rattle.std.proofs.Math.Nat.{div-one, mod-eq_of_lt, zero-mul, zero-mod}
 use Rattle.std.proofs.lemmas.Nat.{pow_pos, pow-add, mod_below, shr-shr, shr_split, and_mask, one_shl, shl_whole, or_shifted, mul-add-lt}
 use Rattle.std.proofs.lemmas.Nat.Bits.{bit_at-zero, bit_at-lt, bit_at_above, bit_at_cat_low, bit_at_cat_high, bit_at_or, same_from_bits_below}
@@ -116,7 +117,8 @@ replaced_are_bits n low k part i =
     (λ h. rw (replaced_bit_after n low k part i h) (bit_at-lt n i)))
 
 -- a number with the old bits everywhere is the old number
-pub replace_none : (w n : ℕ) (low : ℤ) (k part : ℕ) → n < 2 ^ w → ((i : ℕ) → i < w → replaced_bit n low k part i ≡ bit_at n i) → value.replace w n low k part ≡ n
+pub replace_none : (w n : ℕ) (low : ℤ) (k part : ℕ) → n < 2 ^ w → ((i : ℕ) → i < w → replaced_bit n low k part i ≡ bit_at n i)
+    → value.replace w n low k part ≡ n
 replace_none w n low k part f same =
     sym (number_of_bits (replaced_bit n low k part) w n (replaced_are_bits n low k part) f (λ i h. sym (same i h)))
 
@@ -166,7 +168,8 @@ pub replace_low : (w n : ℕ) (low : ℤ) (k part by : ℕ) → n < 2 ^ w → lo
 replace_low w n (pos d) k part by f h e past = absurd (omega (arith, ints))
 replace_low w n (negsuc d) k part by f h e past = sym (replace_before w n (negsuc d) k part f (omega (arith, ints)))
 
-pub replace_cut : (w n : ℕ) (low : ℤ) (k part by : ℕ) → low <ℤ pos 0 → by ≡ unsigned_abs low → by < k → value.replace w n (pos 0) (k - by) (part / 2 ^ by) ≡ value.replace w n low k part
+pub replace_cut : (w n : ℕ) (low : ℤ) (k part by : ℕ) → low <ℤ pos 0 → by ≡ unsigned_abs low → by < k
+    → value.replace w n (pos 0) (k - by) (part / 2 ^ by) ≡ value.replace w n low k part
 replace_cut w n (pos d) k part by h e within = absurd (omega (arith, ints))
 replace_cut w n (negsuc d) k part by h e within =
     ap (λ m. value.replace w n (pos 0) (k - m) (part / 2 ^ m)) e ∙ replace_rest w n d k part (omega arith)
@@ -187,7 +190,9 @@ low_piece_above n k i g h = ap (λ m. bit_at (bit_and n (m - 1)) i) (one_shl k 1
 bit_of_three : (x y z i a b c : ℕ) → bit_at x i ≡ a → bit_at y i ≡ b → bit_at z i ≡ c → bit_at (bit_or (bit_or x y) z) i ≡ max (max a b) c
 bit_of_three x y z i a b c p q r = bit_at_or (bit_or x y) z i ∙ ap (λ m. max m (bit_at z i)) (bit_at_or x y i) ∙ rw (p, q, r) refl
 
-pub placed_bit : (w n low k part i : ℕ) → w ≤ 128 → low < w → part < 2 ^ k → i < w → bit_at (bit_or (bit_or (n / 2 ^ (low + k) * 2 ^ (low + k)) (part * 2 ^ low % 2 ^ 128)) (bit_and n (1 * 2 ^ low % 2 ^ 128 - 1))) i ≡ replaced_bit n (pos low) k part i
+pub placed_bit : (w n low k part i : ℕ) → w ≤ 128 → low < w → part < 2 ^ k → i < w
+    → bit_at (bit_or (bit_or (n / 2 ^ (low + k) * 2 ^ (low + k)) (part * 2 ^ low % 2 ^ 128)) (bit_and n (1 * 2 ^ low % 2 ^ 128 - 1))) i
+    ≡ replaced_bit n (pos low) k part i
 placed_bit w n low k part i most lower fits h =
     let wide : i < 128 = omega arith in
     let shift : low < 128 = omega arith in
@@ -195,7 +200,8 @@ placed_bit w n low k part i most lower fits h =
     elim (cases_lt i low) [
       | inl before ↦ (
           let before' : pos i <ℤ pos low = omega (arith, ints) in
-          bit_of_three _ _ _ i 0 0 (bit_at n i) (bit_at-shl_low (n / 2 ^ (low + k)) (low + k) i (omega arith)) (middle ∙ bit_at-shl_low part low i before) (low_piece n low i shift before)
+          bit_of_three _ _ _ i 0 0 (bit_at n i) (bit_at-shl_low (n / 2 ^ (low + k)) (low + k) i (omega arith)) (middle
+          ∙ bit_at-shl_low part low i before) (low_piece n low i shift before)
           ∙ omega arith
           ∙ sym (replaced_bit_before n (pos low) k part i before'))
       | inr from ↦ elim (cases_lt i (low + k)) [
@@ -203,18 +209,22 @@ placed_bit w n low k part i most lower fits h =
             let above : pos low ≤ℤ pos i = omega (arith, ints) in
             let below : pos i <ℤ (pos low +ℤ pos k) = omega (arith, ints) in
             let at : pos i -ℤ pos low ≡ pos (i - low) = omega (arith, ints) in
-            bit_of_three _ _ _ i 0 (bit_at part (i - low)) 0 (bit_at-shl_low (n / 2 ^ (low + k)) (low + k) i inside) (middle ∙ bit_at-shl_high part low i from) (low_piece_above n low i shift from)
+            bit_of_three _ _ _ i 0 (bit_at part (i - low)) 0 (bit_at-shl_low (n / 2 ^ (low + k)) (low + k) i inside) (middle
+            ∙ bit_at-shl_high part low i from) (low_piece_above n low i shift from)
             ∙ omega arith
             ∙ sym (replaced_bit_inside n (pos low) k part i above below ∙ ap (bit_in part) at))
         | inr after ↦ (
             let after' : (pos low +ℤ pos k) ≤ℤ pos i = omega (arith, ints) in
-            bit_of_three _ _ _ i (bit_at n i) 0 0 (high_piece n (low + k) i after) (middle ∙ bit_at-shl_high part low i from ∙ bit_at_above part k (i - low) fits (omega arith)) (low_piece_above n low i shift from)
+            bit_of_three _ _ _ i (bit_at n i) 0 0 (high_piece n (low + k) i after) (middle ∙ bit_at-shl_high part low i from
+            ∙ bit_at_above part k (i - low) fits (omega arith)) (low_piece_above n low i shift from)
             ∙ omega arith
             ∙ sym (replaced_bit_after n (pos low) k part i after'))
       ]
     ]
 
-pub placed_is : (w n low k part : ℕ) → w ≤ 128 → low < w → part < 2 ^ k → bit_or (bit_or (n / 2 ^ (low + k) * 2 ^ (low + k)) (part * 2 ^ low % 2 ^ 128)) (bit_and n (1 * 2 ^ low % 2 ^ 128 - 1)) % 2 ^ w ≡ value.replace w n (pos low) k part
+pub placed_is : (w n low k part : ℕ) → w ≤ 128 → low < w → part < 2 ^ k
+    → bit_or (bit_or (n / 2 ^ (low + k) * 2 ^ (low + k)) (part * 2 ^ low % 2 ^ 128)) (bit_and n (1 * 2 ^ low % 2 ^ 128 - 1)) % 2 ^ w
+    ≡ value.replace w n (pos low) k part
 placed_is w n low k part most lower fits =
     number_of_bits (replaced_bit n (pos low) k part) w _ (replaced_are_bits n (pos low) k part) (mod_below _ (2 ^ w) (pow_pos w))
     (λ i h. bit_at-mod _ w i h ∙ placed_bit w n low k part i most lower fits h)

@@ -8,8 +8,11 @@ use Rattle.std.proofs.lemmas.Int.{ints}
 use Rattle.std.specs.Int.{bit_at}
 use Rattle.bit_values.specs.Values as value
 use Rattle.bit_values.specs.Values.{bit_in, replaced_bit}
-use Rattle.bit_values.specs.Laws.{ReplaceFits, SelectBits, SelectZeros, SelectPastTop, SelectBelow, SelectConcatHigh, SelectConcatLow, ReplacePartBits, ReplaceLowBits, ReplaceHighBits, ReplaceZeros, ReplacePastTop, ReplaceBelow, SelectReplaced, SelectBelowReplaced, SelectAboveReplaced}
-use Rattle.bit_values.proofs.BitLemmas.{bit_at-mod_above, bit_at-select, number_of_fits, bit_at-number_of, replaced_are_bits, replaced_bit_inside, replaced_bit_before, replaced_bit_after, replace_past, replace_before}
+use Rattle.bit_values.specs.Laws.{ReplaceFits, SelectBits, SelectZeros, SelectPastTop, SelectBelow, SelectConcatHigh, SelectConcatLow, ReplacePartBits}
+use Rattle.bit_values.specs.Laws.{ReplaceLowBits, ReplaceHighBits, ReplaceZeros, ReplacePastTop, ReplaceBelow, SelectReplaced, SelectBelowReplaced}
+use Rattle.bit_values.specs.Laws.{SelectAboveReplaced}
+use Rattle.bit_values.proofs.BitLemmas.{bit_at-mod_above, bit_at-select, number_of_fits, bit_at-number_of, replaced_are_bits, replaced_bit_inside}
+use Rattle.bit_values.proofs.BitLemmas.{replaced_bit_before, replaced_bit_after, replace_past, replace_before}
 
 -- ---- select
 
@@ -37,11 +40,13 @@ bit_in_before n (negsuc i) h = refl
 
 pub select_past_top : SelectPastTop
 select_past_top v w n low f past =
-    selected_is w n 0 low (pow_pos w) (λ i h. let out : pos v ≤ℤ (low +ℤ pos i) = omega (arith, ints) in bit_in_past v n (low +ℤ pos i) f out ∙ sym (bit_at-zero i))
+    selected_is w n 0 low (pow_pos w) (λ i h. let out : pos v ≤ℤ (low +ℤ pos i) = omega (arith, ints) in bit_in_past v n (low +ℤ pos i) f out
+    ∙ sym (bit_at-zero i))
 
 pub select_below : SelectBelow
 select_below w n low before =
-    selected_is w n 0 low (pow_pos w) (λ i h. let out : (low +ℤ pos i) <ℤ pos 0 = omega (arith, ints) in bit_in_before n (low +ℤ pos i) out ∙ sym (bit_at-zero i))
+    selected_is w n 0 low (pow_pos w) (λ i h. let out : (low +ℤ pos i) <ℤ pos 0 = omega (arith, ints) in bit_in_before n (low +ℤ pos i) out
+    ∙ sym (bit_at-zero i))
 
 pub select_concat_high : SelectConcatHigh
 select_concat_high v w high low f g = ap (λ n. n % 2 ^ v) (shr_high high w low g) ∙ mod-eq_of_lt f
@@ -110,4 +115,5 @@ select_below_replaced w n low k part v from f before =
 pub select_above_replaced : SelectAboveReplaced
 select_above_replaced w n low k part v from f after =
     selected_is v (value.replace w n low k part) (value.select v n from) from (select_fits v n from)
-    (λ i h. let out : (low +ℤ pos k) ≤ℤ (from +ℤ pos i) = omega (arith, ints) in old_bit_after w n low k part (from +ℤ pos i) f out ∙ sym (bit_at-select v n from i h))
+    (λ i h. let out : (low +ℤ pos k) ≤ℤ (from +ℤ pos i) = omega (arith, ints) in old_bit_after w n low k part (from +ℤ pos i) f out
+    ∙ sym (bit_at-select v n from i h))

@@ -1,5 +1,6 @@
 -- The laws on results that are values of their width, on bitwise operators and on reductions.
-use Rattle.std.proofs.Common.{◌≡◌, ℕ, zero, suc, ◌+◌, ◌-◌, ◌*◌, ◌/◌, ◌%◌, ◌^◌, ◌<◌, ◌≤◌, refl, sym, ◌∙◌, ap, arith, inl, inr, true, false, ◌==◌, count_ones, Bool, if◌then◌else◌}
+use Rattle.std.proofs.Common.{◌≡◌, ℕ, zero, suc, ◌+◌, ◌-◌, ◌*◌, ◌/◌, ◌%◌, ◌^◌, ◌<◌, ◌≤◌, refl, sym, ◌∙◌, ap, arith, inl, inr, true, false, ◌==◌, count_ones}
+use Rattle.std.proofs.Common.{Bool, if◌then◌else◌}
 use Rattle.std.proofs.Math.Nat.{div-le_self, mod-le, mod-eq_of_lt, pow-suc}
 use Rattle.std.proofs.lemmas.Nat.{pow_pos, mod_below, div_below, shr_le, or_lt, xor_lt, ones_cat, ones-le, shr_split, zero_from_ones, ones_le_self}
 use Rattle.std.specs.Int.Bits.{and_lt}
@@ -7,7 +8,8 @@ use Rattle.std.proofs.lemmas.Nat.Bits.{bit_at_and, bit_at_or, bit_at_xor, bit_at
 use Rattle.std.proofs.lemmas.Bool.{cases_eq, cases_lt, eq-eqb, lt-ltb, ne_eqb}
 use Rattle.std.specs.Int.{bit_at}
 use Rattle.bit_values.specs.Values as value
-use Rattle.bit_values.specs.Laws.{AddFits, SubFits, MulFits, NegFits, TruncateFits, UdivFits, UremFits, SdivFits, SremFits, AndFits, OrFits, XorFits, NotFits, ShlFits, ShrFits, SarFits, SelectFits, AndBits, OrBits, XorBits, RedAndBits, RedOrBits, RedXorBits, ones_below}
+use Rattle.bit_values.specs.Laws.{AddFits, SubFits, MulFits, NegFits, TruncateFits, UdivFits, UremFits, SdivFits, SremFits, AndFits, OrFits, XorFits, NotFits}
+use Rattle.bit_values.specs.Laws.{ShlFits, ShrFits, SarFits, SelectFits, AndBits, OrBits, XorBits, RedAndBits, RedOrBits, RedXorBits, ones_below}
 use Rattle.bit_values.proofs.SizeLaws.{modulo_fits}
 use Rattle.bit_values.proofs.BitLemmas.{bit_at-mod}
 
@@ -91,7 +93,11 @@ flagged : (n : ℕ) → value.flag (n == n) ≡ 1
 flagged n = ap value.flag (eq-eqb n n refl)
 
 pub red_and_bits : RedAndBits
-red_and_bits w n f = (λ e i h. ap (λ m. bit_at m i) (is_flagged n (2 ^ w - 1) e) ∙ bit_at_ones w i h, λ all. ap (λ m. value.flag (m == 2 ^ w - 1)) (all_ones w n f all) ∙ flagged (2 ^ w - 1))
+red_and_bits w n f = (
+  λ e i h. ap (λ m. bit_at m i) (is_flagged n (2 ^ w - 1) e)
+      ∙ bit_at_ones w i h,
+  λ all. ap (λ m. value.flag (m == 2 ^ w - 1)) (all_ones w n f all) ∙ flagged (2 ^ w - 1),
+)
 
 no_ones : (w n : ℕ) → n < 2 ^ w → ((i : ℕ) → i < w → bit_at n i ≡ 0) → n ≡ 0
 no_ones w n f all = same_from_bits_below w n 0 f (pow_pos w) (λ i h. all i h ∙ sym (bit_at-zero i))

@@ -6,7 +6,8 @@ use Rattle.std.proofs.lemmas.Nat.Bits.{bit_at-suc, bit_at_lowest, bit_at-lt, bit
 use Rattle.std.proofs.lemmas.Bool.{cases_lt}
 use Rattle.std.specs.Int.{bit_at, int_div_euclid}
 use Rattle.bit_values.specs.Values as value
-use Rattle.bit_values.specs.Laws.{ModuloFits, ExtendFits, ConcatFits, ExtendKeepsSigned, TruncateUndoesExtend, ExtendBits, ExtendZeros, ExtendSigns, TruncateBits, TruncateZeros, ConcatLowBits, ConcatHighBits, NotBits, ShlZeros, ShlBits, ShrBits, SarBits, SarSigns}
+use Rattle.bit_values.specs.Laws.{ModuloFits, ExtendFits, ConcatFits, ExtendKeepsSigned, TruncateUndoesExtend, ExtendBits, ExtendZeros, ExtendSigns}
+use Rattle.bit_values.specs.Laws.{TruncateBits, TruncateZeros, ConcatLowBits, ConcatHighBits, NotBits, ShlZeros, ShlBits, ShrBits, SarBits, SarSigns}
 use Rattle.bit_values.proofs.Widths.{signed_high, signed_low, wider, sar_high}
 use Rattle.bit_values.proofs.BitLemmas.{bit_at-mod, bit_at-mod_above, bit_at-shr, bit_at-shl_low, bit_at-shl_high, concat_fits}
 

@@ -1,5 +1,6 @@
 -- Laws of numbers modulo 2 ^ w and of their signed readings, stated once over the width.
-use Rattle.std.proofs.Common.{◌≡◌, ℕ, zero, suc, ◌+◌, ◌-◌, ◌*◌, ◌/◌, ◌%◌, ◌^◌, ◌<◌, ◌≤◌, sym, ◌∙◌, ap, subst, arith, bit_and, zero-add, mul_assoc, inl, inr, true, pos, negsuc, ◌-ℤ◌, neg_ℤ}
+use Rattle.std.proofs.Common.{◌≡◌, ℕ, zero, suc, ◌+◌, ◌-◌, ◌*◌, ◌/◌, ◌%◌, ◌^◌, ◌<◌, ◌≤◌, sym, ◌∙◌, ap, subst, arith, bit_and, zero-add, mul_assoc, inl, inr}
+use Rattle.std.proofs.Common.{true, pos, negsuc, ◌-ℤ◌, neg_ℤ}
 use Rattle.std.proofs.Math.Pow.{mod-mod-pow, not_mod}
 use Rattle.std.proofs.Math.Nat.{mod-eq_of_lt, add-mul-mod_self_right, mul-mod_left, suc-mul, pow-le-pow_right, div-eq_of_lt, suc-mod, mod_self, zero-mod}
 use Rattle.std.proofs.lemmas.Nat.{and_mask, pow-add, pow_pos, shr_le, mod_below}
@@ -77,8 +78,10 @@ after_mod : (n m : ℕ) → zero < m → m - 1 - n % m ≡ (m - suc n % m) % m
 after_mod n m p =
     let low : n % m < m = mod_below n m p in
     let e : m - 1 - n % m ≡ (m - suc (n % m) % m) % m = elim (cases_lt (suc (n % m)) m) [
-      | inl h ↦ (let k : suc (n % m) % m ≡ suc (n % m) = mod-eq_of_lt h in let o : m - suc (n % m) < m = omega arith in rw k (omega arith ∙ sym (mod-eq_of_lt o)))
-      | inr h ↦ (let k : suc (n % m) ≡ m = omega arith in let y : m - 1 - n % m ≡ 0 = omega arith in let z : m - 0 ≡ m = omega arith in rw (y, k, mod_self m, z) (sym (mod_self m)))
+      | inl h ↦ (let k : suc (n % m) % m ≡ suc (n % m) = mod-eq_of_lt h in let o : m - suc (n % m) < m = omega arith in rw k (omega arith
+          ∙ sym (mod-eq_of_lt o)))
+      | inr h ↦ (let k : suc (n % m) ≡ m = omega arith in let y : m - 1 - n % m ≡ 0 = omega arith in let z : m - 0 ≡ m = omega arith in
+          rw (y, k, mod_self m, z) (sym (mod_self m)))
     ] in
     rw (suc-mod n m) e
 
@@ -143,7 +146,8 @@ pub shl_out : (a by w : ℕ) → w ≤ by → value.shl w a by ≡ 0
 shl_out a by w h =
     let e : (by - w) + w ≡ by = omega arith in
     let P : ℕ → Type 0 = λ m. (a * 2 ^ m) % 2 ^ w ≡ 0 in
-    subst P e (ap (λ n. (a * n) % 2 ^ w) (pow-add 2 (by - w) w) ∙ ap (λ n. n % 2 ^ w) (sym (mul_assoc a (2 ^ (by - w)) (2 ^ w))) ∙ mul-mod_left (a * 2 ^ (by - w)) (2 ^ w))
+    subst P e (ap (λ n. (a * n) % 2 ^ w) (pow-add 2 (by - w) w) ∙ ap (λ n. n % 2 ^ w) (sym (mul_assoc a (2 ^ (by - w)) (2 ^ w)))
+    ∙ mul-mod_left (a * 2 ^ (by - w)) (2 ^ w))
 
 pub shr_out : (a by w : ℕ) → a < 2 ^ w → w ≤ by → value.shr a by ≡ 0
 shr_out a by w f h = div-eq_of_lt (wider a w by f h)

@@ -1,7 +1,9 @@
 -- Laws of the calls' values, over every width. A value of w bits is a number below 2 ^ w.
-use Rattle.std.specs.Prelude.{◌≡◌, ℕ, zero, suc, ◌+◌, ◌-◌, ◌%◌, ◌^◌, ◌<◌, ◌≤◌, ◌↔◌, min, max, bit_and, bit_or, bit_xor, Bool, true, false, ℤ, pos, ◌+ℤ◌, ◌-ℤ◌, ◌<ℤ◌, ◌≤ℤ◌}
+use Rattle.std.specs.Prelude.{◌≡◌, ℕ, zero, suc, ◌+◌, ◌-◌, ◌%◌, ◌^◌, ◌<◌, ◌≤◌, ◌↔◌, min, max, bit_and, bit_or, bit_xor, Bool, true, false, ℤ, pos, ◌+ℤ◌, ◌-ℤ◌}
+use Rattle.std.specs.Prelude.{◌<ℤ◌, ◌≤ℤ◌}
 use Rattle.std.specs.Int.{bit_at}
-use Rattle.bit_values.specs.Values.{modulo, signed, bit_in, add, sub, mul, neg, udiv, urem, sdiv, srem, not, red_and, red_or, red_xor, shl, shr, sar, extend, truncate, concat, select, replace}
+use Rattle.bit_values.specs.Values.{modulo, signed, bit_in, add, sub, mul, neg, udiv, urem, sdiv, srem, not, red_and, red_or, red_xor, shl, shr, sar, extend}
+use Rattle.bit_values.specs.Values.{truncate, concat, select, replace}
 
 -- ---- results are values of their width
 

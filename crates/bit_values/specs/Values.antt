@@ -1,5 +1,6 @@
 -- What each call computes, in the words of IEEE 1364-2005 with two states. A value of w bits is a number below 2 ^ w.
-use Rattle.std.specs.Prelude.{ℕ, zero, suc, ◌+◌, ◌-◌, ◌*◌, ◌/◌, ◌%◌, ◌^◌, Bool, true, false, if◌then◌else◌, nat_lt, nat_le, ◌==◌, ◌&&◌, ℤ, pos, negsuc, ◌+ℤ◌, ◌-ℤ◌, neg_ℤ, int_lt, int_le, int_div, int_rem, unsigned_abs, count_ones}
+use Rattle.std.specs.Prelude.{ℕ, zero, suc, ◌+◌, ◌-◌, ◌*◌, ◌/◌, ◌%◌, ◌^◌, Bool, true, false, if◌then◌else◌, nat_lt, nat_le, ◌==◌, ◌&&◌, ℤ, pos, negsuc, ◌+ℤ◌}
+use Rattle.std.specs.Prelude.{◌-ℤ◌, neg_ℤ, int_lt, int_le, int_div, int_rem, unsigned_abs, count_ones}
 use Rattle.std.specs.Int.{bit_at, int_div_euclid, int_rem_euclid}
 
 -- ---- readings of a number

@@ -1,5 +1,6 @@
 -- Twin circuits have the same runs, but for what they note.
-use Rattle.std.proofs.Common.{◌≡◌, ◌≢◌, ◌∙◌, sym, ap, ap₂, refl, subst, ℕ, ◌<◌, Bool, ◌||◌, if◌then◌else◌, List, [], ◌∷◌, ◌++◌, map, flat_map, All, length, get_or}
+use Rattle.std.proofs.Common.{◌≡◌, ◌≢◌, ◌∙◌, sym, ap, ap₂, refl, subst, ℕ, ◌<◌, Bool, ◌||◌, if◌then◌else◌, List, [], ◌∷◌, ◌++◌, map, flat_map, All, length}
+use Rattle.std.proofs.Common.{get_or}
 use Rattle.std.proofs.lemmas.Grind.{flat_map-append}
 use Rattle.circuit_run.specs.Agreement.{Agrees}
 use Rattle.std.specs.Int.{bit_at}
@@ -15,7 +16,8 @@ use Rattle.circuit_run.specs.Settled.{inputs_in, AgreesWith, IsSettled}
 use Rattle.circuit_run.specs.Edges.{IsEdge, edge_notes}
 use Rattle.circuit_run.specs.Runs.{IsStart, opening, Cycle, cycle_on, IsCycle, AreCycles, no_rows, last, more, Run, rows_after, output_line}
 use Rattle.circuit_run.specs.Twins.{HasWidths, TwinCircuits, TwinsRun}
-use Rattle.circuit_run.proofs.TwinProcesses.{twins_of_kind, twins_updates, twins_text, twins_finished, twins_stopped, twins_states, twins_notes, twins_process_notes, twins_in_turn, twins_driven}
+use Rattle.circuit_run.proofs.TwinProcesses.{twins_of_kind, twins_updates, twins_text, twins_finished, twins_stopped, twins_states, twins_notes}
+use Rattle.circuit_run.proofs.TwinProcesses.{twins_process_notes, twins_in_turn, twins_driven}
 
 -- A state of the variables has their widths.
 pub widths_of_state : (vars : List Var) (s : State) → IsStateOf vars s → HasWidths vars s
@@ -106,14 +108,16 @@ module _ {N M : Type 0} (marks : N → List M) (c : Circuit N) (d : Circuit M) (
             ∙ sym (ap (λ x. flat_map marks x.notes) h.on);
       }
 
-  is_twin_cycle : {registers after : State} {inputs : List ℕ} {k : Cycle N} → IsCycle c registers inputs after k → IsCycle d registers inputs after (twin_cycle k)
+  is_twin_cycle : {registers after : State} {inputs : List ℕ} {k : Cycle N} → IsCycle c registers inputs after k
+      → IsCycle d registers inputs after (twin_cycle k)
   is_twin_cycle {registers} {after} {inputs} {k} h = record {
     settled = twin_settled registers inputs k.settled h.settled;
     edge = twin_edge k.settled after (widths_of_state c.vars k.settled h.settled.agrees.is_state) h.edge;
     on = refl;
   }
 
-  twin_cycles : {registers : State} {rows : List (List ℕ)} {ks : List (Cycle N)} → AreCycles c registers rows ks → AreCycles d registers rows (map twin_cycle ks)
+  twin_cycles : {registers : State} {rows : List (List ℕ)} {ks : List (Cycle N)} → AreCycles c registers rows ks
+      → AreCycles d registers rows (map twin_cycle ks)
   twin_cycles no_rows = no_rows
   twin_cycles (last h p) = last (is_twin_cycle h) (ap₂ ◌||◌ (same_cycle h).finished (same_cycle h).stopped ∙ p)
   twin_cycles (more h p hs) = more (is_twin_cycle h) (ap₂ ◌||◌ (same_cycle h).finished (same_cycle h).stopped ∙ p) (twin_cycles hs)
@@ -125,7 +129,8 @@ module _ {N M : Type 0} (marks : N → List M) (c : Circuit N) (d : Circuit M) (
     finished : map (λ k. k.finished) (map twin_cycle ks) ≡ map (λ k. k.finished) ks
     stopped : map (λ k. k.stopped) (map twin_cycle ks) ≡ map (λ k. k.stopped) ks
     notes : flat_map (λ k. k.notes) (map twin_cycle ks) ≡ flat_map marks (flat_map (λ k. k.notes) ks)
-    lines : (outputs : List ℕ) → flat_map (λ k. output_line outputs k.settled ++ k.text) (map twin_cycle ks) ≡ flat_map (λ k. output_line outputs k.settled ++ k.text) ks
+    lines : (outputs : List ℕ) → flat_map (λ k. output_line outputs k.settled ++ k.text) (map twin_cycle ks) ≡ flat_map (λ k. output_line outputs k.settled
+        ++ k.text) ks
 
   one_more : (k : Cycle N) (ks : List (Cycle N)) → SameCycle k → SameCycles ks → SameCycles (k ∷ ks)
   one_more k ks a b = record {
@@ -152,8 +157,10 @@ twins_run N M marks c d twins rows r h =
     let same = same_cycles marks c d twins h.cycles in
     let t : Run M = record { opened = opening d h.start; cycles = map (twin_cycle marks c d twins) r.cycles } in
     let opened : Agrees marks r.opened t.opened = subst (λ x. Agrees marks x t.opened) (sym h.opened) begin in
-    let registers : all_written r.opened.state r.opened.updates ≡ all_written t.opened.state t.opened.updates = ap₂ all_written (sym opened.state) (sym opened.updates) in
-    let then_rows : rows_after r.opened rows ≡ rows_after t.opened rows = ap (λ b. if b then [] else rows) (ap₂ ◌||◌ (sym opened.finished) (sym opened.stopped)) in (
+    let registers : all_written r.opened.state r.opened.updates
+    ≡ all_written t.opened.state t.opened.updates = ap₂ all_written (sym opened.state) (sym opened.updates) in
+    let then_rows : rows_after r.opened rows
+    ≡ rows_after t.opened rows = ap (λ b. if b then [] else rows) (ap₂ ◌||◌ (sym opened.finished) (sym opened.stopped)) in (
       t,
       record {
         start = h.start;

@@ -21,7 +21,8 @@ pub record Twins {N M : Type 0} (marks : N → List M) (vars : List Var) (p : Pr
 
 pub data AllTwins {N M : Type 0} (marks : N → List M) (vars : List Var) : List (Process N) → List (Process M) → Type 0 where
   no_twins : AllTwins marks vars [] []
-  more_twins : {p : Process N} {q : Process M} {ps : List (Process N)} {qs : List (Process M)} → Twins marks vars p q → AllTwins marks vars ps qs → AllTwins marks vars (p ∷ ps) (q ∷ qs)
+  more_twins : {p : Process N} {q : Process M} {ps : List (Process N)} {qs : List (Process M)} → Twins marks vars p q → AllTwins marks vars ps qs
+      → AllTwins marks vars (p ∷ ps) (q ∷ qs)
 
 -- Two circuits with the same variables, inputs and outputs, and with processes that do the same one by one.
 pub record TwinCircuits {N M : Type 0} (marks : N → List M) (c : Circuit N) (d : Circuit M) : Type 0 where

@@ -1,5 +1,6 @@
 -- A check has one answer at most, but for the place where tokens are outside the grammar.
-use Rattle.std.proofs.Common.{◌≡◌, ℕ, ◌+◌, ◌<◌, ◌≤◌, suc, List, [], ◌∷◌, ◌++◌, length, get_or, map, refl, sym, ◌∙◌, ap, subst, Option, None, Some, Result, Ok, Err, arith, add-zero}
+use Rattle.std.proofs.Common.{◌≡◌, ℕ, ◌+◌, ◌<◌, ◌≤◌, suc, List, [], ◌∷◌, ◌++◌, length, get_or, map, refl, sym, ◌∙◌, ap, subst, Option, None, Some, Result, Ok}
+use Rattle.std.proofs.Common.{Err, arith, add-zero}
 use Rattle.std.specs.Prelude.{sum}
 use Rattle.std.proofs.Math.Seq.{get_or-append_seam}
 use Rattle.cov_port.specs.Files.{Names}
@@ -11,7 +12,8 @@ use Rattle.vlog_tree.specs.declared.module.SourceFile.{SourceFile}
 use Rattle.vlog_grammar.specs.Modules.{SpellsFile}
 use Rattle.command_ending.specs.Answer.{Answer, absent, over_limit}
 use Rattle.command_check.specs.Agree.{Agree, same, syntax_place}
-use Rattle.command_check.specs.CheckAnswer.{AreDesigns, AreRead, IsCheckAnswer, too_many, stopped, refused_file, all_accepted, IsDesign, RefusesDesign, tokens, grammar, RefusesOne, StopsReading, lacking, too_long, accepted, token_refusal}
+use Rattle.command_check.specs.CheckAnswer.{AreDesigns, AreRead, IsCheckAnswer, too_many, stopped, refused_file, all_accepted, IsDesign, RefusesDesign, tokens}
+use Rattle.command_check.specs.CheckAnswer.{grammar, RefusesOne, StopsReading, lacking, too_long, accepted, token_refusal}
 use Rattle.command_ending.specs.declared.status.Status.TheVariants.{Done}
 use Rattle.command_ending.proofs.CutLemmas.{Cuts, at_one, sooner, later, cons_same, cuts}
 use Rattle.command_check.proofs.DesignLemmas.{sum_around, sum_more}
@@ -46,9 +48,11 @@ record Around (held : Names) (before : List (List ℕ)) (name : List ℕ) (texts
   pub hold : map held before ≡ map Some firsts
   pub here : held name ≡ Some text
 
-around : (held : Names) (before : List (List ℕ)) (name : List ℕ) (after texts : List (List ℕ)) → map held (before ++ name ∷ after) ≡ map Some texts → Around held before name texts
+around : (held : Names) (before : List (List ℕ)) (name : List ℕ) (after texts : List (List ℕ)) → map held (before ++ name ∷ after) ≡ map Some texts
+    → Around held before name texts
 around held [] name after [] is = absurd (cc)
-around held [] name after (t ∷ texts) is = let here : held name ≡ Some t = cc in record { firsts = []; text = t; rest = texts; split = refl; hold = refl; here = here }
+around held [] name after (t ∷ texts) is = let here : held name ≡ Some t = cc in
+    record { firsts = []; text = t; rest = texts; split = refl; hold = refl; here = here }
 around held (b ∷ before) name after [] is = absurd (cc)
 around held (b ∷ before) name after (t ∷ texts) is =
     let first : held b ≡ Some t = cc in
@@ -63,7 +67,8 @@ around held (b ∷ before) name after (t ∷ texts) is =
       here = found.here;
     }
 
-text_around : (held : Names) (names before after texts : List (List ℕ)) (name : List ℕ) → names ≡ before ++ name ∷ after → AreRead held names texts → Around held before name texts
+text_around : (held : Names) (names before after texts : List (List ℕ)) (name : List ℕ) → names ≡ before ++ name ∷ after → AreRead held names texts
+    → Around held before name texts
 text_around held names before after texts name split read = around held before name after texts (ap (map held) (sym split) ∙ read.hold)
 
 none_some : (o : Option (List ℕ)) (text : List ℕ) → o ≡ None → o ≡ Some text → ⊥
@@ -105,7 +110,8 @@ stop_of held names answer (lacking before after done name split read none) =
 stop_of held names answer (too_long before after done name text split read here long) =
     record { before = before; name = name; after = after; done = done; split = split; read = read; why = overfull text here long }
 
-stops_in : (held : Names) (names before done after : List (List ℕ)) (name : List ℕ) (answer : Answer) → names ≡ before ++ name ∷ after → AreRead held before done → StopsAt held done name answer
+stops_in : (held : Names) (names before done after : List (List ℕ)) (name : List ℕ) (answer : Answer) → names ≡ before ++ name ∷ after
+    → AreRead held before done → StopsAt held done name answer
     → StopsReading held names answer
 stops_in held names before done after name answer split read (lacks none) = lacking before after done name split read none
 stops_in held names before done after name answer split read (overfull text here long) = too_long before after done name text split read here long
@@ -147,7 +153,8 @@ one_design reading file number text a b one two =
     file two.tokens a b (subst (λ (t : TokenList). SpellsFile t a) found one.tree) two.tree
 
 -- a design is not refused
-design_refused : OneReading → (number : ℕ) (name text : List ℕ) (file : SourceFile) (answer : Answer) → IsDesign number text file → RefusesDesign number name text answer → ⊥
+design_refused : OneReading → (number : ℕ) (name text : List ℕ) (file : SourceFile) (answer : Answer) → IsDesign number text file
+    → RefusesDesign number name text answer → ⊥
 design_refused reading number name text file answer is (tokens fault read) = ok_err is.tokens fault (reading number text (Ok is.tokens) (Err fault) is.reading read)
 design_refused reading number name text file answer is (grammar found place read outside there) =
     outside file (subst (λ (t : TokenList). SpellsFile t file) (ok_same is.tokens found (reading number text (Ok is.tokens) (Ok found) is.reading read)) is.tree)
@@ -161,7 +168,8 @@ refusals_agree reading number name text a b (grammar found place read outside th
 refusals_agree reading number name text a b (grammar found place read outside there) (grammar other q again without here) = syntax_place name place q
 
 -- texts are one list of designs
-one_list : OneReading → OneFile → (number : ℕ) (texts : List (List ℕ)) (xs ys : List SourceFile) → AreDesigns number texts xs → AreDesigns number texts ys → xs ≡ ys
+one_list : OneReading → OneFile → (number : ℕ) (texts : List (List ℕ)) (xs ys : List SourceFile) → AreDesigns number texts xs → AreDesigns number texts ys
+    → xs ≡ ys
 one_list reading file number [] [] [] one two = refl
 one_list reading file number [] [] (b ∷ ys) one two = absurd two
 one_list reading file number [] (a ∷ xs) ys one two = absurd one
@@ -171,7 +179,8 @@ one_list reading file number (t ∷ texts) (a ∷ xs) (b ∷ ys) one two =
     cons_same a b xs ys (one_design reading file number t a b one.0 two.0) (one_list reading file (number + 1) texts xs ys one.1 two.1)
 
 -- each of the texts is a design
-design_at : (number : ℕ) (before : List (List ℕ)) (text : List ℕ) (after : List (List ℕ)) (files : List SourceFile) → AreDesigns number (before ++ text ∷ after) files
+design_at : (number : ℕ) (before : List (List ℕ)) (text : List ℕ) (after : List (List ℕ)) (files : List SourceFile)
+    → AreDesigns number (before ++ text ∷ after) files
     → (file : SourceFile) × IsDesign (number + length before) text file
 design_at number [] text after [] all = absurd all
 design_at number [] text after (f ∷ files) all = (f, subst (λ (n : ℕ). IsDesign n text f) (sym (add-zero number)) all.0)
@@ -208,7 +217,8 @@ firsts_agree reading names texts a b one two =
       | later more is ↦ absurd (refused_within reading names texts one.texts_before more one.files b two is one.designs)
     ]
 
-pub checks_agree : OneReading → OneFile → (held : Names) (names : List (List ℕ)) (a b : Answer) → IsCheckAnswer held names a → IsCheckAnswer held names b → Agree a b
+pub checks_agree : OneReading → OneFile → (held : Names) (names : List (List ℕ)) (a b : Answer) → IsCheckAnswer held names a → IsCheckAnswer held names b
+    → Agree a b
 checks_agree reading file held names a b (too_many many) (too_many more) = same
 checks_agree reading file held names a b (too_many many) (stopped answer few stops) = absurd (omega arith)
 checks_agree reading file held names a b (too_many many) (refused_file texts answer few read refusal) = absurd (omega arith)
@@ -223,11 +233,13 @@ checks_agree reading file held names a b (refused_file texts answer few read ref
 checks_agree reading file held names a b (refused_file texts answer few read refusal) (refused_file others other fewer again refused_too) =
     firsts_agree reading names others answer other (subst (λ (ts : List (List ℕ)). RefusesOne names ts answer) (one_text held names texts others read again) refusal) refused_too
 checks_agree reading file held names a b (refused_file texts answer few read refusal) (all_accepted others files fewer again designs) =
-    absurd (refused_within reading names texts others refusal.texts_after files answer refusal (one_text held names others texts again read ∙ refusal.texts_split) designs)
+    absurd (refused_within reading names texts others refusal.texts_after files answer refusal (one_text held names others texts again read
+    ∙ refusal.texts_split) designs)
 checks_agree reading file held names a b (all_accepted texts files few read designs) (too_many many) = absurd (omega arith)
 checks_agree reading file held names a b (all_accepted texts files few read designs) (stopped other fewer stops) = absurd (stops_unread held names texts other stops read)
 checks_agree reading file held names a b (all_accepted texts files few read designs) (refused_file others other fewer again refusal) =
-    absurd (refused_within reading names others texts refusal.texts_after files other refusal (one_text held names texts others read again ∙ refusal.texts_split) designs)
+    absurd (refused_within reading names others texts refusal.texts_after files other refusal (one_text held names texts others read again
+    ∙ refusal.texts_split) designs)
 checks_agree reading file held names a b (all_accepted texts files few read designs) (all_accepted others more fewer again all) =
     agree _ _ (ap accepted (one_list reading file 0 others files more (subst (λ (ts : List (List ℕ)). AreDesigns 0 ts files) (one_text held names texts others read again) designs) all))
 

@@ -17,21 +17,25 @@ use Rattle.command_ending.specs.declared.status.Status.TheVariants.{Limit}
 use Rattle.command_ending.proofs.FinishLemmas.{finish_leaves}
 use Rattle.command_ending.proofs.PutLemmas.{always_told, if_told}
 use Rattle.command_ending.proofs.StopLemmas.{refusal_stops, stops_weaker}
-use Rattle.command_check.specs.CheckAnswer.{AreDesigns, AreRead, IsCheckAnswer, too_many, stopped, refused_file, all_accepted, RefusesOne, accepted, module_count, modules_line}
+use Rattle.command_check.specs.CheckAnswer.{AreDesigns, AreRead, IsCheckAnswer, too_many, stopped, refused_file, all_accepted, RefusesOne, accepted}
+use Rattle.command_check.specs.CheckAnswer.{module_count, modules_line}
 use Rattle.command_check.specs.CheckPromise.{CheckRefuses, check_promise}
 use Rattle.command_check.specs.CheckPromise as promise
 use Rattle.command_check.specs.Steps.{IsTooLong, designs_promise}
 use Rattle.vlog_lexer.specs.Origins.{FaultFromOne, TokensFromOne}
 use Rattle.command_check.proofs.PlaceLemmas.{one_refuses}
 
-limit_of : (files : List (List ℕ)) (status : Status) (line : List ℕ) → 4096 < length files → refused_with status line ≡ over_limit Files → CheckRefuses files status line
+limit_of : (files : List (List ℕ)) (status : Status) (line : List ℕ) → 4096 < length files → refused_with status line ≡ over_limit Files
+    → CheckRefuses files status line
 limit_of files status line many is = subst (λ (a : Answer). CheckRefuses files a.status a.line) (sym is) (promise.too_many many)
 
 -- more files than are read
-pub many_stop : (names : List (List ℕ)) (told : Option Names) (faults : FileFaults) (e : Ending) → 4096 < length names → IsRefusal (λ answer. answer ≡ over_limit Files) e
+pub many_stop : (names : List (List ℕ)) (told : Option Names) (faults : FileFaults) (e : Ending) → 4096 < length names
+    → IsRefusal (λ answer. answer ≡ over_limit Files) e
     → Stops (check_promise names) told faults faults e
 many_stop names told faults e many is =
-    refusal_stops (check_promise names) (λ answer. answer ≡ over_limit Files) told faults faults e refl (λ status line same. limit_of names status line many same)
+    refusal_stops (check_promise names) (λ answer. answer
+    ≡ over_limit Files) told faults faults e refl (λ status line same. limit_of names status line many same)
     (always_told told _ (λ held answer same. subst (IsCheckAnswer held names) (sym same) (too_many many))) is
 
 long_refuses : (names : List (List ℕ)) (status : Status) (line : List ℕ) → length names ≤ 4096 → IsTooLong status line → CheckRefuses names status line
@@ -46,7 +50,8 @@ unread_stop names told before now e few is =
     (always_told told _ (λ held answer one. stopped answer few one)) is
 
 -- a design that is refused
-pub refusal_stop : FaultFromOne → TokensFromOne → (names texts : List (List ℕ)) (told : Option Names) (before now : FileFaults) (e : Ending) → length names ≤ 4096 → now ≡ before
+pub refusal_stop : FaultFromOne → TokensFromOne → (names texts : List (List ℕ)) (told : Option Names) (before now : FileFaults) (e : Ending)
+    → length names ≤ 4096 → now ≡ before
     → IfSome told (λ held. AreRead held names texts) → IsRefusal (RefusesOne names texts) e → Stops (check_promise names) told before now e
 refusal_stop from_fault from_tokens names texts told before now e few quiet read is =
     refusal_stops (check_promise names) (RefusesOne names texts) told before now e quiet (λ status line one. one_refuses from_fault from_tokens names texts (refused_with status line) few one)

@@ -1,5 +1,6 @@
 -- Design files that are read one after the other.
-use Rattle.std.proofs.Common.{◌≡◌, ◌⊎◌, inl, inr, ℕ, suc, ◌+◌, ◌<◌, ◌≤◌, List, [], ◌∷◌, ◌++◌, length, get_or, take, drop, map, sym, ◌∙◌, ap, subst, Option, None, Some, arith, add-zero}
+use Rattle.std.proofs.Common.{◌≡◌, ◌⊎◌, inl, inr, ℕ, suc, ◌+◌, ◌<◌, ◌≤◌, List, [], ◌∷◌, ◌++◌, length, get_or, take, drop, map, sym, ◌∙◌, ap, subst, Option}
+use Rattle.std.proofs.Common.{None, Some, arith, add-zero}
 use Rattle.std.specs.Prelude.{IfSome, Contains, sum}
 use Rattle.std.proofs.lemmas.List.{length-take-le, map-append, take_more}
 use Rattle.std.proofs.lemmas.List.Sums.{sum_by-append, sum_by-cons, sum_by_push}
@@ -22,12 +23,17 @@ sum_more f xs x = ap sum (map-append f xs (x ∷ [])) ∙ sum_by_push (λ (n : �
 -- a sum around one
 pub sum_around : {X : Type 0} (f : X → ℕ) (xs : List X) (x : X) (ys : List X) → sum (map f (xs ++ x ∷ ys)) ≡ sum (map f xs) + (f x + sum (map f ys))
 sum_around f xs x ys =
-    ap sum (map-append f xs (x ∷ ys)) ∙ sum_by-append (λ (n : ℕ). n) (map f xs) (f x ∷ map f ys) ∙ ap (λ (n : ℕ). sum (map f xs) + n) (sum_by-cons (λ (n : ℕ). n) (f x) (map f ys))
+    ap sum (map-append f xs (x ∷ ys)) ∙ sum_by-append (λ (n : ℕ). n) (map f xs) (f x ∷ map f ys)
+    ∙ ap (λ (n : ℕ). sum (map f xs) + n) (sum_by-cons (λ (n : ℕ). n) (f x) (map f ys))
 
 -- a text is not longer than all together
 pub text_within : (texts : List (List ℕ)) (i : ℕ) → i < length texts → length (get_or texts i []) ≤ sum (map length texts)
 text_within texts i within =
-    omega (arith, ap (λ (ts : List (List ℕ)). sum (map length ts)) (split_at texts i [] within) ∙ sum_around length (take i texts) (get_or texts i []) (drop (suc i) texts))
+    omega (
+      arith,
+      ap (λ (ts : List (List ℕ)). sum (map length ts)) (split_at texts i [] within)
+          ∙ sum_around length (take i texts) (get_or texts i []) (drop (suc i) texts),
+    )
 
 -- the names hold the texts, where they are told
 abbrev pub Holds : Option Names → List (List ℕ) → List (List ℕ) → Type 0
@@ -67,7 +73,8 @@ designs_to texts i files file within all one =
     (designs_more 0 (take i texts) files (get_or texts i []) file all (subst (λ (n : ℕ). IsDesign n (get_or texts i []) file) number one))
 
 -- the first file that is refused, behind designs
-pub refuses_one : (names texts : List (List ℕ)) (i : ℕ) (files : List SourceFile) (answer : Answer) → length texts ≡ length names → i < length texts → AreDesigns 0 (take i texts) files
+pub refuses_one : (names texts : List (List ℕ)) (i : ℕ) (files : List SourceFile) (answer : Answer) → length texts ≡ length names → i < length texts
+    → AreDesigns 0 (take i texts) files
     → RefusesDesign i (get_or names i []) (get_or texts i []) answer → RefusesOne names texts answer
 refuses_one names texts i files answer each within all refused =
     let inside : i < length names = omega arith in

@@ -12,7 +12,8 @@ use Rattle.command_cover.specs.CoverReading.{refusal_of}
 use Rattle.command_cover.specs.MergePromise.{FileRefuses, bad_line, past_limit, bad_header, bad_record, bad_count, line_too_long, data_bytes}
 
 -- a fault of a file refuses it
-pub fault_refuses : (name : List ℕ) (f : DataFault) → (f ≡ fault.Failed → ⊥) → IsFileFault f → FileRefuses name (refusal_of name f).status (refusal_of name f).line
+pub fault_refuses : (name : List ℕ) (f : DataFault) → (f ≡ fault.Failed → ⊥) → IsFileFault f
+    → FileRefuses name (refusal_of name f).status (refusal_of name f).line
 fault_refuses name (fault.BadHeader n) other is = bad_line n (codes "BadHeader") is bad_header
 fault_refuses name (fault.BadRecord n) other is = bad_line n (codes "BadRecord") is bad_record
 fault_refuses name (fault.BadCount n) other is = bad_line n (codes "BadCount") is bad_count

@@ -27,15 +27,18 @@ use Rattle.command_cover.specs.MergePromise as promise
 use Rattle.command_cover.specs.Steps.{continued, files_promise}
 use Rattle.command_cover.proofs.ReadingLemmas.{Outcome, all_reads, reads_once}
 
-limit_of : (files : List (List ℕ)) (status : Status) (line : List ℕ) → most Files < length files → refused_with status line ≡ over_limit Files → MergeRefuses files status line
+limit_of : (files : List (List ℕ)) (status : Status) (line : List ℕ) → most Files < length files → refused_with status line ≡ over_limit Files
+    → MergeRefuses files status line
 limit_of files status line many is =
     subst (λ (a : Answer). MergeRefuses files a.status a.line) (sym is) (promise.too_many many)
 
 -- more files than are read
-pub many_stop : (merge : Merging) (told : Option Names) (faults : FileFaults) (e : Ending) → most Files < length merge.files → IsRefusal (λ answer. answer ≡ over_limit Files) e
+pub many_stop : (merge : Merging) (told : Option Names) (faults : FileFaults) (e : Ending) → most Files < length merge.files
+    → IsRefusal (λ answer. answer ≡ over_limit Files) e
     → Stops (merge_promise merge) told faults faults e
 many_stop merge told faults e many is =
-    refusal_stops (merge_promise merge) (λ answer. answer ≡ over_limit Files) told faults faults e refl (λ status line same. limit_of merge.files status line many same)
+    refusal_stops (merge_promise merge) (λ answer. answer
+    ≡ over_limit Files) told faults faults e refl (λ status line same. limit_of merge.files status line many same)
     (always_told told _ (λ held answer same. subst (IsMergeAnswer held merge) (sym same) (too_many many))) is
 
 -- files of which one is refused
@@ -93,7 +96,8 @@ merges_agree held merge a b (all_merged records few is) (unread other fewer agai
 merges_agree held merge a b (all_merged records few is) (all_merged others fewer again) = ap (stored_at merge.out) (outcomes_ok records others (reads_once _ (Ok records) (Ok others) is again))
 
 -- where there is no reason to stop, the merged file is stored
-pub done_unless_wrong : (held : Names) (merge : Merging) (answer : Answer) → length merge.files ≤ most Files → IsReadOn (all_arrivals held keeps_all merge.files) → IsMergeAnswer held merge answer
+pub done_unless_wrong : (held : Names) (merge : Merging) (answer : Answer) → length merge.files ≤ most Files
+    → IsReadOn (all_arrivals held keeps_all merge.files) → IsMergeAnswer held merge answer
     → answer ≡ stored_at merge.out (records_in (all_arrivals held keeps_all merge.files))
 done_unless_wrong held merge answer few on is =
     merges_agree held merge answer (stored_at merge.out (records_in (all_arrivals held keeps_all merge.files))) is (all_merged (records_in (all_arrivals held keeps_all merge.files)) few (all_read on))

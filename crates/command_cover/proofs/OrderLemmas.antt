@@ -1,5 +1,6 @@
 -- Files in another order.
-use Rattle.std.proofs.Common.{◌≡◌, ◌≤◌, ℕ, List, [], ◌∷◌, ◌++◌, map, length, refl, sym, ◌∙◌, ap, subst, Option, None, Some, Ok, Err, IsPermutation, append_assoc, arith}
+use Rattle.std.proofs.Common.{◌≡◌, ◌≤◌, ℕ, List, [], ◌∷◌, ◌++◌, map, length, refl, sym, ◌∙◌, ap, subst, Option, None, Some, Ok, Err, IsPermutation}
+use Rattle.std.proofs.Common.{append_assoc, arith}
 use Rattle.std.specs.Prelude.{filter, option_map}
 use Rattle.std.specs.List.{All}
 use Rattle.std.proofs.lemmas.List.{append-nil}
@@ -18,7 +19,8 @@ use Rattle.cov_types.specs.declared.limit.LimitName.TheVariants.{Files}
 use Rattle.cov_dat.specs.declared.record_list.Record.{Record}
 use Rattle.command_ending.specs.Answer.{Answer, done, over_limit}
 use Rattle.command_ending.specs.declared.status.Status.TheVariants.{Done, Limit}
-use Rattle.command_cover.specs.CoverReading.{Arrival, arrived, ended, stopped, IsReadOn, IsReading, all_read, stops_at, all_arrivals, end_of, file_arrivals, reason_at, records_in, refusal_of}
+use Rattle.command_cover.specs.CoverReading.{Arrival, arrived, ended, stopped, IsReadOn, IsReading, all_read, stops_at, all_arrivals, end_of, file_arrivals}
+use Rattle.command_cover.specs.CoverReading.{reason_at, records_in, refusal_of}
 use Rattle.command_cover.specs.Laws.{MergesInAnyOrder}
 use Rattle.command_cover.specs.Merge.{IsMergeAnswer, too_many, unread, all_merged, keeps_all, merge_to, stored_at}
 use Rattle.command_cover.proofs.ReadingLemmas.{records_append}
@@ -78,7 +80,8 @@ all_stop held (name ∷ names) = stops_append (file_arrivals keeps_all name (hel
 
 limit_stops : (o : Option LimitName) (answer : Answer) → option_map over_limit o ≡ Some answer → answer.status ≡ Done → ⊥
 limit_stops None answer is over = absurd (cc)
-limit_stops (Some name) answer is over = let same : over_limit name ≡ answer = cc in let no : Limit ≡ Done = ap (λ (a : Answer). a.status) same ∙ over in absurd (cc)
+limit_stops (Some name) answer is over = let same : over_limit name ≡ answer = cc in let no : Limit ≡ Done = ap (λ (a : Answer). a.status) same
+    ∙ over in absurd (cc)
 
 reason_stops : (before : List Arrival) (a : Arrival) (answer : Answer) → IsStop a → reason_at before a ≡ Some answer → answer.status ≡ Done → ⊥
 reason_stops before (arrived r) answer stop is over = limit_stops (limit_passed (merged (records_in before ++ r ∷ []))) answer is over

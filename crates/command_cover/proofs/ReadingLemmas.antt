@@ -1,5 +1,6 @@
 -- What reading data files comes to.
-use Rattle.std.proofs.Common.{◌≡◌, ℕ, ◌+◌, suc, List, [], ◌∷◌, ◌++◌, length, refl, sym, ◌∙◌, ap, subst, Option, None, Some, Result, Ok, Err, arith, append_assoc, length-append}
+use Rattle.std.proofs.Common.{◌≡◌, ℕ, ◌+◌, suc, List, [], ◌∷◌, ◌++◌, length, refl, sym, ◌∙◌, ap, subst, Option, None, Some, Result, Ok, Err, arith}
+use Rattle.std.proofs.Common.{append_assoc, length-append}
 use Rattle.std.specs.Prelude.{option_map}
 use Rattle.cov_dat.specs.Laws.{AddsOneByOne}
 use Rattle.cov_dat.specs.Merging.{Counts, added, limit_passed, merged}
@@ -16,7 +17,8 @@ some_same : (o : Option Answer) (a b : Answer) → o ≡ Some a → o ≡ Some b
 some_same o a b one two = cc
 
 -- arrivals that are read on have no first reason to stop
-read_stops : (arrivals before : List Arrival) (a : Arrival) (after : List Arrival) (answer : Answer) → IsReadOn arrivals → arrivals ≡ before ++ a ∷ after → reason_at before a ≡ Some answer → ⊥
+read_stops : (arrivals before : List Arrival) (a : Arrival) (after : List Arrival) (answer : Answer) → IsReadOn arrivals → arrivals ≡ before ++ a ∷ after
+    → reason_at before a ≡ Some answer → ⊥
 read_stops arrivals before a after answer on split reason = none_some (reason_at before a) answer (on before a after split) reason
 
 abbrev pub Outcome : Type 0
@@ -24,7 +26,8 @@ Outcome = Result (List Record) Answer
 
 -- there is one first reason to stop
 stops_once : (arrivals before : List Arrival) (a : Arrival) (after : List Arrival) (x : Answer) (others : List Arrival) (b : Arrival) (rest : List Arrival) (y : Answer)
-    → arrivals ≡ before ++ a ∷ after → IsReadOn before → reason_at before a ≡ Some x → arrivals ≡ others ++ b ∷ rest → IsReadOn others → reason_at others b ≡ Some y → x ≡ y
+    → arrivals ≡ before ++ a ∷ after → IsReadOn before → reason_at before a ≡ Some x → arrivals ≡ others ++ b ∷ rest → IsReadOn others
+    → reason_at others b ≡ Some y → x ≡ y
 stops_once arrivals before a after x others b rest y split on reason split_too on_too reason_too =
     elim (cuts before a after others b rest (sym split ∙ split_too)) [
       | at_one is one ↦ some_same (reason_at others b) x y
@@ -84,10 +87,12 @@ ok_err a b r one two = absurd (cc)
 err_same : (a b : Answer) (r : Result Counts Answer) → r ≡ Err a → r ≡ Err b → a ≡ b
 err_same a b r one two = cc
 
-stop_reads : (done : List Arrival) (a : Arrival) (rest : List Arrival) (answer : Answer) → IsReadOn done → reason_at done a ≡ Some answer → Reads (done ++ a ∷ rest) (Err answer)
+stop_reads : (done : List Arrival) (a : Arrival) (rest : List Arrival) (answer : Answer) → IsReadOn done → reason_at done a ≡ Some answer
+    → Reads (done ++ a ∷ rest) (Err answer)
 stop_reads done a rest answer on reason = record {
   ok = λ counts is. absurd (ok_err counts answer (Err answer) is refl);
-  err = λ other is. subst (λ (x : Answer). IsReading (done ++ a ∷ rest) (Err x)) (err_same answer other (Err answer) refl is) (stops_at done a rest answer refl on reason);
+  err = λ other is. subst (λ (x : Answer). IsReading (done
+      ++ a ∷ rest) (Err x)) (err_same answer other (Err answer) refl is) (stops_at done a rest answer refl on reason);
 }
 
 moved : (xs ys : List Arrival) (r : Result Counts Answer) → xs ≡ ys → Reads ys r → Reads xs r
@@ -102,7 +107,8 @@ continued_reads law done [] on = moved (done ++ []) done _ (append_none done) (r
 continued_reads law done (stopped answer ∷ rest) on = stop_reads done (stopped answer) rest answer on refl
 continued_reads law done (ended ∷ rest) on =
     moved _ _ _ (behind done ended rest)
-    (subst (λ (rs : List Record). Reads ((done ++ ended ∷ []) ++ rest) (continued (merged rs) rest)) (records_append done (ended ∷ []) ∙ none_more (records_in done))
+    (subst (λ (rs : List Record). Reads ((done ++ ended ∷ []) ++ rest) (continued (merged rs) rest)) (records_append done (ended ∷ [])
+    ∙ none_more (records_in done))
     (continued_reads law (done ++ ended ∷ []) rest (read_more done ended on refl))) where
       none_more : (rs : List Record) → rs ++ [] ≡ rs
       none_more [] = refl
@@ -111,9 +117,11 @@ continued_reads law done (arrived r ∷ rest) on =
     elim (limit_passed (added (merged (records_in done)) r.key r.count)) as (λ o. limit_passed (added (merged (records_in done)) r.key r.count) ≡ o
     → Reads (done ++ arrived r ∷ rest) (with_limit o (continued (added (merged (records_in done)) r.key r.count) rest))) [
       | None ↦ λ e. moved _ _ _ (behind done (arrived r) rest)
-          (subst (λ (c : Counts). Reads ((done ++ arrived r ∷ []) ++ rest) (continued c rest)) (ap merged (records_append done (arrived r ∷ [])) ∙ law (records_in done) r)
+          (subst (λ (c : Counts). Reads ((done ++ arrived r ∷ []) ++ rest) (continued c rest)) (ap merged (records_append done (arrived r ∷ []))
+          ∙ law (records_in done) r)
           (continued_reads law (done ++ arrived r ∷ []) rest
-          (read_more done (arrived r) on (ap (λ (c : Counts). option_map over_limit (limit_passed c)) (law (records_in done) r) ∙ ap (option_map over_limit) e))))
+          (read_more done (arrived r) on (ap (λ (c : Counts). option_map over_limit (limit_passed c)) (law (records_in done) r)
+          ∙ ap (option_map over_limit) e))))
       | Some name ↦ λ e. stop_reads done (arrived r) rest (over_limit name) on
           (ap (λ (c : Counts). option_map over_limit (limit_passed c)) (law (records_in done) r) ∙ ap (option_map over_limit) e)
     ] refl

@@ -41,7 +41,8 @@ with_limit-ok None r more is = is
 with_limit-ok (Some name) r more is = absurd (cc)
 
 -- behind further arrivals
-pub continued-append-ok : (counts more : Counts) (first rest : List Arrival) → continued counts first ≡ Ok more → continued counts (first ++ rest) ≡ continued more rest
+pub continued-append-ok : (counts more : Counts) (first rest : List Arrival) → continued counts first ≡ Ok more
+    → continued counts (first ++ rest) ≡ continued more rest
 continued-append-ok counts more [] rest is = let same : counts ≡ more = cc in ap (λ (c : Counts). continued c rest) same
 continued-append-ok counts more (stopped answer ∷ first) rest is = absurd (cc)
 continued-append-ok counts more (ended ∷ first) rest is = continued-append-ok counts more first rest is
@@ -52,7 +53,8 @@ continued-append-ok counts more (arrived r ∷ first) rest is =
       | Some name ↦ λ e. absurd (cc)
     ] is
 
-pub continued-append-err : (counts : Counts) (first rest : List Arrival) (answer : Answer) → continued counts first ≡ Err answer → continued counts (first ++ rest) ≡ Err answer
+pub continued-append-err : (counts : Counts) (first rest : List Arrival) (answer : Answer) → continued counts first ≡ Err answer
+    → continued counts (first ++ rest) ≡ Err answer
 continued-append-err counts [] rest answer is = absurd (cc)
 continued-append-err counts (stopped s ∷ first) rest answer is = is
 continued-append-err counts (ended ∷ first) rest answer is = continued-append-err counts first rest answer is
@@ -64,7 +66,8 @@ continued-append-err counts (arrived r ∷ first) rest answer is =
     ] is
 
 -- a file that can't be taken
-pub untaken_stops : (held : Option Names) (name : List ℕ) (counts : Counts) (before now : FileFaults) (e : Ending) → Stops (taking name) held before now e → Stops (file_promise counts name) held before now e
+pub untaken_stops : (held : Option Names) (name : List ℕ) (counts : Counts) (before now : FileFaults) (e : Ending) → Stops (taking name) held before now e
+    → Stops (file_promise counts name) held before now e
 untaken_stops held name counts before now e is =
     stops_weaker (taking name) (file_promise counts name) held before now e (λ other same. same) (λ status line never. absurd never)
     (always_told held _ (λ h answer one. ap (λ (o : Option (List ℕ)). continued counts (file_arrivals keeps_all name o)) one.0 ∙ ap Err (sym one.1))) is
@@ -78,13 +81,15 @@ added_first told counts more first name names all one before =
     if_told_both told _ _ _ (λ held is so. sym (continued-append-ok counts more (file_arrivals keeps_all name (held name)) (all_arrivals held keeps_all names) is) ∙ so) one before
 
 -- files of which the first is refused are refused
-pub refused_first : (told : Option Names) (counts first : Counts) (name : List ℕ) (names all : List (List ℕ)) (before now : FileFaults) (e : Ending) → Contains all name
+pub refused_first : (told : Option Names) (counts first : Counts) (name : List ℕ) (names all : List (List ℕ)) (before now : FileFaults) (e : Ending)
+    → Contains all name
     → IfSome told (λ held. continued counts (all_arrivals held keeps_all (name ∷ names)) ≡ continued first (all_arrivals held keeps_all all))
     → Stops (file_promise counts name) told before now e → Stops (files_promise first all) told before now e
 refused_first told counts first name names all before now e there so is =
     stops_weaker (file_promise counts name) (files_promise first all) told before now e (λ other same. subst (Contains all) (sym same) there)
     (λ status line one. (name, there, one))
-    (if_told told _ _ (λ held same answer one. sym same ∙ continued-append-err counts (file_arrivals keeps_all name (held name)) (all_arrivals held keeps_all names) answer one) so) is
+    (if_told told _ _ (λ held same answer one. sym same
+    ∙ continued-append-err counts (file_arrivals keeps_all name (held name)) (all_arrivals held keeps_all names) answer one) so) is
 
 -- the limit on merged keys of a fault
 pub limit_refusal : (fault : MergeFault) (limit : LimitName) (e : Ending) → fault ≡ merge_fault.Limit limit → IsRefusal (λ answer. answer ≡ over_limit limit) e

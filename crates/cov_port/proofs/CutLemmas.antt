@@ -1,9 +1,11 @@
 -- Ranges of a buffer, and lines that are cut off.
-use Rattle.std.proofs.Common.{◌≡◌, ℕ, zero, suc, Option, None, Some, Result, Ok, Err, IfOk, IfSome, ◌+◌, ◌-◌, ◌<◌, ◌≤◌, Bool, true, false, cond, eqb, List, [], ◌∷◌, ◌++◌, length, take, drop, refl, sym, ◌∙◌, ap, arith, length-drop, length-append}
+use Rattle.std.proofs.Common.{◌≡◌, ℕ, zero, suc, Option, None, Some, Result, Ok, Err, IfOk, IfSome, ◌+◌, ◌-◌, ◌<◌, ◌≤◌, Bool, true, false, cond, eqb, List, []}
+use Rattle.std.proofs.Common.{◌∷◌, ◌++◌, length, take, drop, refl, sym, ◌∙◌, ap, arith, length-drop, length-append}
 use Rattle.std.specs.Prelude.{◌&&◌, slice_index, slice_range}
 use Rattle.std.specs.List.{list_all}
 use Rattle.std.proofs.lemmas.Bool.{eqb-true}
-use Rattle.std.proofs.lemmas.List.{drop-take, drop-drop, take-take, take-append-drop, take-append-le, length-take-le, length-take, get_or-drop, nil_from_length, append-nil}
+use Rattle.std.proofs.lemmas.List.{drop-take, drop-drop, take-take, take-append-drop, take-append-le, length-take-le, length-take, get_or-drop, nil_from_length}
+use Rattle.std.proofs.lemmas.List.{append-nil}
 use Rattle.std.proofs.lemmas.List.Folds.{list_all-append}
 use Rattle.std.proofs.Math.Seq.{take-append-add}
 use borrow.Rule.Slice.PartMut.{put_mid, post_of}
@@ -31,7 +33,8 @@ range_length buffer a b within = length-take-le (b - a) (drop a buffer) (omega (
 take_split : (n m : ℕ) (xs : List ℕ) → take (n + m) xs ≡ take n xs ++ take m (drop n xs)
 take_split n m xs =
     let front : take n (take (n + m) xs) ≡ take n xs = take-take n (n + m) xs (omega arith) in
-    sym (take-append-drop n (take (n + m) xs)) ∙ ap (λ (ys : List ℕ). ys ++ drop n (take (n + m) xs)) front ∙ ap (λ (ys : List ℕ). take n xs ++ ys) (drop-take n m xs)
+    sym (take-append-drop n (take (n + m) xs)) ∙ ap (λ (ys : List ℕ). ys ++ drop n (take (n + m) xs)) front
+    ∙ ap (λ (ys : List ℕ). take n xs ++ ys) (drop-take n m xs)
 
 -- texts without line feeds, one after the other, have none
 pub no_feed-append : (xs ys : List ℕ) → has_no_feed xs ≡ true → has_no_feed ys ≡ true → has_no_feed (xs ++ ys) ≡ true
@@ -76,7 +79,8 @@ feed_behind bs clear at within front below here miss =
     }
 
 -- no line feed behind bytes that have none
-pub no_feed-behind : (bs : List ℕ) (clear : ℕ) → has_no_feed (take clear bs) ≡ true → ((k : ℕ) → k < length (drop clear bs) → Misses 10 (drop clear bs) k) → has_no_feed bs ≡ true
+pub no_feed-behind : (bs : List ℕ) (clear : ℕ) → has_no_feed (take clear bs) ≡ true → ((k : ℕ) → k < length (drop clear bs) → Misses 10 (drop clear bs) k)
+    → has_no_feed bs ≡ true
 no_feed-behind bs clear front miss =
     ap has_no_feed (sym (take-append-drop clear bs)) ∙ no_feed-append (take clear bs) (drop clear bs) front (no_feed-misses (drop clear bs) miss)
 

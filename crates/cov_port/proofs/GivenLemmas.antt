@@ -1,5 +1,6 @@
 -- Lines that a cutter gives.
-use Rattle.std.proofs.Common.{◌≡◌, ℕ, zero, suc, ◌+◌, ◌<◌, ◌≤◌, Option, None, Some, IfSome, Bool, true, false, cond, not, eqb, ltb, List, [], ◌∷◌, ◌++◌, length, take, drop, refl, sym, ◌∙◌, ap, arith, length-append, append_assoc}
+use Rattle.std.proofs.Common.{◌≡◌, ℕ, zero, suc, ◌+◌, ◌<◌, ◌≤◌, Option, None, Some, IfSome, Bool, true, false, cond, not, eqb, ltb, List, [], ◌∷◌, ◌++◌, length}
+use Rattle.std.proofs.Common.{take, drop, refl, sym, ◌∙◌, ap, arith, length-append, append_assoc}
 use Rattle.std.specs.Prelude.{◌&&◌}
 use Rattle.std.specs.List.{list_all}
 use Rattle.std.proofs.lemmas.Bool.{false≢true, le-ltb, lt-ltb}
@@ -55,7 +56,8 @@ gives_open (b ∷ bs) none few = record {
 
 -- a line feed among the bytes ahead ends the line that is given
 pub line_told : (first : Option (List ℕ)) (cutter new : Cutter) (rest : Option (List ℕ)) (at : ℕ)
-    → KeepsLeft first (left_of cutter rest) → length cutter.ahead ≤ 65536 → IsFeedAt cutter.ahead at → new.ahead ≡ drop (at + 1) cutter.ahead → new.line ≡ take at cutter.ahead
+    → KeepsLeft first (left_of cutter rest) → length cutter.ahead ≤ 65536 → IsFeedAt cutter.ahead at → new.ahead ≡ drop (at + 1) cutter.ahead
+    → new.line ≡ take at cutter.ahead
     → GivesTold a_line new.line first (left_of new rest)
 line_told None cutter new rest at kept few feed ahead line = tt
 line_told (Some left) cutter new None at kept few feed ahead line = absurd (cc)

@@ -6,7 +6,8 @@ use Rattle.std.specs.Str.{bytes_eq}
 use Rattle.cov_port.specs.Memory.{held_in}
 
 -- the name holds what was stored last, and every other name what it held
-pub held_push : (files : List (List ℕ × List ℕ)) (name bytes q : List ℕ) → held_in (files ++ (name, bytes) ∷ []) q ≡ (if bytes_eq q name then Some bytes else held_in files q)
+pub held_push : (files : List (List ℕ × List ℕ)) (name bytes q : List ℕ)
+    → held_in (files ++ (name, bytes) ∷ []) q ≡ (if bytes_eq q name then Some bytes else held_in files q)
 held_push [] name bytes q = refl
 held_push (f ∷ fs) name bytes q =
     ap (λ (o : Option (List ℕ)). option_map_or (λ (t : List ℕ). Some t) o (if bytes_eq q f.0 then Some f.1 else None)) (held_push fs name bytes q)

@@ -1,5 +1,6 @@
 -- Hexadecimal digits, one more at a time.
-use Rattle.std.proofs.Common.{◌≡◌, ℕ, ◌+◌, ◌-◌, ◌*◌, ◌^◌, ◌<◌, ◌≤◌, Bool, true, false, cond, Option, None, Some, List, ◌∷◌, length, drop, get_or, refl, sym, ◌∙◌, ap, add-one, arith}
+use Rattle.std.proofs.Common.{◌≡◌, ℕ, ◌+◌, ◌-◌, ◌*◌, ◌^◌, ◌<◌, ◌≤◌, Bool, true, false, cond, Option, None, Some, List, ◌∷◌, length, drop, get_or, refl, sym}
+use Rattle.std.proofs.Common.{◌∙◌, ap, add-one, arith}
 use Rattle.std.proofs.Math.Nat.{add-mul, mul_assoc, pow-suc, pow-le-pow_right}
 use Rattle.std.proofs.Math.Seq.{drop-cons}
 use Rattle.std.specs.List.{list_all}
@@ -37,7 +38,8 @@ hex_fit n i below short =
     omega arith
 
 -- whether all are digits, one byte less at a time
-pub hex_digits_more : (bs : List ℕ) (i : ℕ) → i < length bs → is_hex_digit (get_or bs i 0) ≡ true → list_all is_hex_digit (drop i bs) ≡ list_all is_hex_digit (drop (i + 1) bs)
+pub hex_digits_more : (bs : List ℕ) (i : ℕ) → i < length bs → is_hex_digit (get_or bs i 0) ≡ true
+    → list_all is_hex_digit (drop i bs) ≡ list_all is_hex_digit (drop (i + 1) bs)
 hex_digits_more bs i l digit = ap (list_all is_hex_digit) (drop-cons bs i 0 l) ∙ (rw digit refl ∙ ap (λ k. list_all is_hex_digit (drop k bs)) (sym (add-one i)))
 
 pub hex_digits_end : (bs : List ℕ) (i : ℕ) → i < length bs → is_hex_digit (get_or bs i 0) ≡ false → list_all is_hex_digit (drop i bs) ≡ false

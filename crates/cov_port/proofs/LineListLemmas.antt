@@ -1,5 +1,6 @@
 -- Line lists, run by run.
-use Rattle.std.proofs.Common.{◌≡◌, ℕ, ◌+◌, ◌<◌, ◌≤◌, Bool, true, false, cond, not, List, [], ◌∷◌, ◌++◌, length, map, take, drop, eqb, Option, None, Some, refl, sym, ◌∙◌, ap, arith, append_assoc, inl, inr}
+use Rattle.std.proofs.Common.{◌≡◌, ℕ, ◌+◌, ◌<◌, ◌≤◌, Bool, true, false, cond, not, List, [], ◌∷◌, ◌++◌, length, map, take, drop, eqb, Option, None, Some, refl}
+use Rattle.std.proofs.Common.{sym, ◌∙◌, ap, arith, append_assoc, inl, inr}
 use Rattle.std.proofs.lemmas.Bool.{cases_lt}
 use Rattle.std.specs.List.{list_any, position_or_len, slice_split}
 use Rattle.std.specs.Prelude.{◌||◌, codes}
@@ -16,7 +17,8 @@ both_maps ls r None = refl
 both_maps ls r (Some more) = ap Some (sym (append_assoc ls (r ∷ []) more))
 
 -- a run and a comma
-pub run_more : (ls : List LineRange) (r : LineRange) (rest : List ℕ) (n : ℕ) → n ≡ position_or_len (λ b. eqb b 44) rest → n < length rest → run_of (take n rest) ≡ Some r
+pub run_more : (ls : List LineRange) (r : LineRange) (rest : List ℕ) (n : ℕ) → n ≡ position_or_len (λ b. eqb b 44) rest → n < length rest
+    → run_of (take n rest) ≡ Some r
     → option_map (λ more. ls ++ more) (runs_of rest) ≡ option_map (λ more. (ls ++ r ∷ []) ++ more) (runs_of (drop (n + 1) rest))
 run_more ls r rest n at some is =
     ap (λ (ts : List (List ℕ)). option_map (λ more. ls ++ more) (all_there (map run_of ts))) (split_some (λ b. eqb b 44) rest n at some)
@@ -24,7 +26,8 @@ run_more ls r rest n at some is =
     ∙ both_maps ls r (runs_of (drop (n + 1) rest))
 
 -- the last run
-pub run_last : (ls : List LineRange) (r : LineRange) (rest : List ℕ) (n : ℕ) → n ≡ position_or_len (λ b. eqb b 44) rest → length rest ≤ n → run_of (take n rest) ≡ Some r
+pub run_last : (ls : List LineRange) (r : LineRange) (rest : List ℕ) (n : ℕ) → n ≡ position_or_len (λ b. eqb b 44) rest → length rest ≤ n
+    → run_of (take n rest) ≡ Some r
     → option_map (λ more. ls ++ more) (runs_of rest) ≡ Some (ls ++ r ∷ [])
 run_last ls r rest n at all is =
     ap (λ (ts : List (List ℕ)). option_map (λ more. ls ++ more) (all_there (map run_of ts))) (split_none (λ b. eqb b 44) rest n at all)
@@ -58,7 +61,8 @@ one_passes p (x ∷ xs) within =
     ] within
 
 -- a run of one number, and one of two
-pub run_one : (text : List ℕ) (n : ℕ) → n ≡ position_or_len (λ b. eqb b 45) text → length text ≤ n → run_between (line_number text) (line_number text) ≡ run_of text
+pub run_one : (text : List ℕ) (n : ℕ) → n ≡ position_or_len (λ b. eqb b 45) text → length text ≤ n
+    → run_between (line_number text) (line_number text) ≡ run_of text
 run_one text n at all = rw (none_passes (λ b. eqb b 45) text (omega arith)) refl
 
 pub run_two : (text : List ℕ) (n : ℕ) → n ≡ position_or_len (λ b. eqb b 45) text → n < length text
@@ -66,7 +70,8 @@ pub run_two : (text : List ℕ) (n : ℕ) → n ≡ position_or_len (λ b. eqb b
 run_two text n at some = rw (at, one_passes (λ b. eqb b 45) text (omega arith)) refl
 
 -- one run more
-separated_more : (a : List ℕ) (ts : List (List ℕ)) (t : List ℕ) → separated (codes ",") ((a ∷ ts) ++ t ∷ []) ≡ (separated (codes ",") (a ∷ ts) ++ codes ",") ++ t
+separated_more : (a : List ℕ) (ts : List (List ℕ)) (t : List ℕ)
+    → separated (codes ",") ((a ∷ ts) ++ t ∷ []) ≡ (separated (codes ",") (a ∷ ts) ++ codes ",") ++ t
 separated_more a [] t = refl
 separated_more a (u ∷ ts) t =
     ap (λ (xs : List ℕ). (a ++ codes ",") ++ xs) (separated_more u ts t)

@@ -1,5 +1,6 @@
 -- Line lists that are written are read as they were.
-use Rattle.std.proofs.Common.{◌≡◌, ℕ, zero, suc, ◌+◌, ◌-◌, ◌<◌, ◌≤◌, ◌^◌, Bool, true, false, cond, not, ◌||◌, ◌&&◌, eqb, List, [], ◌∷◌, ◌++◌, length, map, take, drop, Option, None, Some, refl, sym, ◌∙◌, ap, arith, append_assoc, inl, inr, rules}
+use Rattle.std.proofs.Common.{◌≡◌, ℕ, zero, suc, ◌+◌, ◌-◌, ◌<◌, ◌≤◌, ◌^◌, Bool, true, false, cond, not, ◌||◌, ◌&&◌, eqb, List, [], ◌∷◌, ◌++◌, length, map, take}
+use Rattle.std.proofs.Common.{drop, Option, None, Some, refl, sym, ◌∙◌, ap, arith, append_assoc, inl, inr, rules}
 use Rattle.std.specs.Fmt.{decimal}
 use Rattle.std.specs.List.{AllByRecursion, after_first, before_first, list_all, list_any, position_or_len, slice_split, onto_first}
 use Rattle.std.specs.Option.{option_map}
@@ -77,10 +78,11 @@ position-behind p (x ∷ xs) y ys none here =
 -- parts: a text without the mark, alone or before one
 split-alone : (p : ℕ → Bool) (xs : List ℕ) → list_any p xs ≡ false → slice_split p xs ≡ xs ∷ []
 split-alone p [] none = refl
-split-alone p (x ∷ xs) none = elim (p x) as (λ t. (t || list_any p xs) ≡ false → cond t ([] ∷ slice_split p xs) (onto_first x (slice_split p xs)) ≡ (x ∷ xs) ∷ []) [
-  | true ↦ λ h. absurd (true≢false h)
-  | false ↦ λ h. ap (onto_first x) (split-alone p xs h)
-] none
+split-alone p (x ∷ xs) none = elim (p x) as (λ t. (t || list_any p xs) ≡ false
+    → cond t ([] ∷ slice_split p xs) (onto_first x (slice_split p xs)) ≡ (x ∷ xs) ∷ []) [
+      | true ↦ λ h. absurd (true≢false h)
+      | false ↦ λ h. ap (onto_first x) (split-alone p xs h)
+    ] none
 
 split-before : (p : ℕ → Bool) (xs : List ℕ) (y : ℕ) (ys : List ℕ) → list_any p xs ≡ false → p y ≡ true → slice_split p (xs ++ y ∷ ys) ≡ xs ∷ slice_split p ys
 split-before p [] y ys none here = ap (λ (t : Bool). cond t ([] ∷ slice_split p ys) (onto_first y (slice_split p ys))) here
@@ -101,7 +103,8 @@ run-two from to some order few =
     let none : list_any dash (decimal from) ≡ false = without 45 (decimal from) refl (all_digits from (omega arith)) in
     let there : list_any dash (decimal from ++ 45 ∷ decimal to) ≡ true = any-append dash (decimal from) (45 ∷ decimal to) none in
     let at : position_or_len dash (decimal from ++ 45 ∷ decimal to) ≡ length (decimal from) = position-behind dash (decimal from) 45 (decimal to) none refl in
-    let front : take (length (decimal from)) (decimal from ++ 45 ∷ decimal to) ≡ decimal from = take_at (decimal from) (45 ∷ decimal to) (length (decimal from)) refl in
+    let front : take (length (decimal from)) (decimal from ++ 45 ∷ decimal to)
+    ≡ decimal from = take_at (decimal from) (45 ∷ decimal to) (length (decimal from)) refl in
     let behind : drop (length (decimal from) + 1) (decimal from ++ 45 ∷ decimal to) ≡ decimal to =
     drop-behind (decimal from) 45 (decimal to) in
     let less : nat_le from to ≡ true = grind (arith, nat_tests) in

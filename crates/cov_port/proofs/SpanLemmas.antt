@@ -1,5 +1,6 @@
 -- Spans in a log that grows at its end.
-use Rattle.std.proofs.Common.{◌≡◌, ℕ, zero, suc, ◌+◌, ◌-◌, ◌≤◌, Bool, true, false, ◌&&◌, List, [], ◌∷◌, ◌++◌, length, take, drop, refl, sym, ◌∙◌, ap, append_assoc, length-append, arith}
+use Rattle.std.proofs.Common.{◌≡◌, ℕ, zero, suc, ◌+◌, ◌-◌, ◌≤◌, Bool, true, false, ◌&&◌, List, [], ◌∷◌, ◌++◌, length, take, drop, refl, sym, ◌∙◌, ap}
+use Rattle.std.proofs.Common.{append_assoc, length-append, arith}
 use Rattle.std.proofs.lemmas.Bool.{false≢true}
 use Rattle.std.proofs.lemmas.Bool.Decides.{nat_tests}
 use Rattle.std.proofs.lemmas.List.{drop_at, take_at, take_all, drop-drop, drop-take, take-append-drop}
@@ -51,7 +52,8 @@ within_push n m (s ∷ ss) span le e l =
     (within m s (record { first = old.first; second = old.second; last = omega arith }))
     (within_push n m ss span le parts.1 l)
 
-files_push : (log : List ℕ) (spans : List Span) (span : Span) → files_in log (spans ++ span ∷ []) ≡ files_in log spans ++ (name_in log span, text_in log span) ∷ []
+files_push : (log : List ℕ) (spans : List Span) (span : Span)
+    → files_in log (spans ++ span ∷ []) ≡ files_in log spans ++ (name_in log span, text_in log span) ∷ []
 files_push log [] span = refl
 files_push log (s ∷ ss) span = ap (λ (fs : List (List ℕ × List ℕ)). (name_in log s, text_in log s) ∷ fs) (files_push log ss span)
 
@@ -61,7 +63,8 @@ pub added_file : (log new name text : List ℕ) (spans : List Span) (span : Span
     → files_in new (spans ++ span ∷ []) ≡ files_in log spans ++ (name, text) ∷ []
 added_file log new name text spans span is a b d e =
     let n : name_in ((log ++ name) ++ text) span ≡ name =
-    ap (λ (xs : List ℕ). take (span.text - span.name) xs) (ap (λ (xs : List ℕ). drop span.name xs) (append_assoc log name text) ∙ drop_at log (name ++ text) span.name (sym a))
+    ap (λ (xs : List ℕ). take (span.text - span.name) xs) (ap (λ (xs : List ℕ). drop span.name xs) (append_assoc log name text)
+    ∙ drop_at log (name ++ text) span.name (sym a))
     ∙ take_at name text (span.text - span.name) (omega arith) in
     let t : text_in ((log ++ name) ++ text) span ≡ text =
     ap (λ (xs : List ℕ). take (span.end - span.text) xs) (drop_at (log ++ name) text span.text (omega (arith, length-append log name)))
@@ -86,7 +89,8 @@ take_front (suc n) (suc m) (x ∷ xs) h = ap (λ (ys : List ℕ). x ∷ ys) (tak
 pub range_split : (log : List ℕ) (a b n : ℕ) → a + n ≤ b → slice_range log a b ≡ slice_range log a (a + n) ++ drop n (slice_range log a b)
 range_split log a b n h =
     sym (take-append-drop n (slice_range log a b))
-    ∙ ap (λ (xs : List ℕ). xs ++ drop n (slice_range log a b)) (take_front n (b - a) (drop a log) (omega arith) ∙ ap (λ (k : ℕ). take k (drop a log)) (let e : n ≡ a + n - a = omega arith in e))
+    ∙ ap (λ (xs : List ℕ). xs ++ drop n (slice_range log a b)) (take_front n (b - a) (drop a log) (omega arith)
+    ∙ ap (λ (k : ℕ). take k (drop a log)) (let e : n ≡ a + n - a = omega arith in e))
 
 pub range_len : (log : List ℕ) (a n : ℕ) → a + n ≤ length log → length (slice_range log a (a + n)) ≡ n
 range_len log a n h = grind (arith, common_steps)

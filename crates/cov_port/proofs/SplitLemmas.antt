@@ -36,10 +36,12 @@ behind_mark p (b ∷ bs) some begins = ap (λ (t : Bool). drop 1 (cond t ([] ∷
 
 -- a list in which none passes is one part
 pub split_none : (p : ℕ → Bool) (xs : List ℕ) (n : ℕ) → n ≡ position_or_len p xs → length xs ≤ n → slice_split p xs ≡ take n xs ∷ []
-split_none p xs n at all = rw at (split_front p xs ∙ ap (λ (ys : List ℕ). take (position_or_len p xs) xs ∷ drop 1 (slice_split p ys)) (drop_all (position_or_len p xs) xs (omega arith)))
+split_none p xs n at all = rw at (split_front p xs
+    ∙ ap (λ (ys : List ℕ). take (position_or_len p xs) xs ∷ drop 1 (slice_split p ys)) (drop_all (position_or_len p xs) xs (omega arith)))
 
 -- the first that passes ends the first part
-pub split_some : (p : ℕ → Bool) (xs : List ℕ) (n : ℕ) → n ≡ position_or_len p xs → n < length xs → slice_split p xs ≡ take n xs ∷ slice_split p (drop (n + 1) xs)
+pub split_some : (p : ℕ → Bool) (xs : List ℕ) (n : ℕ) → n ≡ position_or_len p xs → n < length xs
+    → slice_split p xs ≡ take n xs ∷ slice_split p (drop (n + 1) xs)
 split_some p xs n at some =
     let rest = drop n xs in
     let long : length rest ≡ length xs - n = length-drop n xs in

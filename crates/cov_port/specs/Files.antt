@@ -1,5 +1,6 @@
 -- What files by name mean.
-use Rattle.std.specs.Prelude.{◌≡◌, ℕ, ◌<◌, ◌≤◌, Bool, true, false, List, [], ◌++◌, length, take, drop, Option, None, Some, Result, OnOk, OnErr, IsErr, is_none, if◌then◌else◌, ◌⊎◌}
+use Rattle.std.specs.Prelude.{◌≡◌, ℕ, ◌<◌, ◌≤◌, Bool, true, false, List, [], ◌++◌, length, take, drop, Option, None, Some, Result, OnOk, OnErr, IsErr, is_none}
+use Rattle.std.specs.Prelude.{if◌then◌else◌, ◌⊎◌}
 use Rattle.std.specs.Str.{bytes_eq}
 use Rattle.cov_port.specs.Causes.{Rose, IsQuiet}
 

@@ -1,5 +1,6 @@
 -- The first bad name, and the first whose base name stands already.
-use Rattle.std.proofs.Common.{◌≡◌, ◌==◌, ℕ, ◌<◌, ◌≤◌, ◌-◌, ◌+◌, Bor, is_some, slice_index, Bool, true, false, cond, ◌||◌, not, List, [], ◌∷◌, ◌++◌, length, drop, take, get_or, Option, None, Some, option_map, refl, sym, ap, ◌∙◌, arith, add-one, drop-cons}
+use Rattle.std.proofs.Common.{◌≡◌, ◌==◌, ℕ, ◌<◌, ◌≤◌, ◌-◌, ◌+◌, Bor, is_some, slice_index, Bool, true, false, cond, ◌||◌, not, List, [], ◌∷◌, ◌++◌, length}
+use Rattle.std.proofs.Common.{drop, take, get_or, Option, None, Some, option_map, refl, sym, ap, ◌∙◌, arith, add-one, drop-cons}
 use Rattle.std.specs.List.{list_any, suffix_len}
 use Rattle.std.specs.Ordering.{is_eq}
 use Rattle.std.specs.Str.{bytes_eq}
@@ -35,16 +36,19 @@ module _ (names : List (List ℕ)) (k : ℕ) (d : List ℕ) (within : k < length
   drop_name : drop k names ≡ get_or names k d ∷ drop (k + 1) names
   drop_name = rw (add-one, drop-cons names k d) refl
 
-  pub bad_name_here : bad_file_name (drop k names) ≡ bad_file_name names → is_good_name (get_or names k d) ≡ false → bad_name_fault names ≡ bad_name_of (get_or names k d)
+  pub bad_name_here : bad_file_name (drop k names) ≡ bad_file_name names → is_good_name (get_or names k d) ≡ false
+      → bad_name_fault names ≡ bad_name_of (get_or names k d)
   bad_name_here so_far bad = ap (λ (o : Option (List ℕ)). option_map fault.BadFileName o)
       (sym so_far ∙ ap bad_file_name drop_name ∙ ap (λ (b : Bool). cond (not b) (Some (get_or names k d)) (bad_file_name (drop (k + 1) names))) bad)
 
-  pub good_name_here : bad_file_name (drop k names) ≡ bad_file_name names → is_good_name (get_or names k d) ≡ true → bad_file_name (drop (k + 1) names) ≡ bad_file_name names
+  pub good_name_here : bad_file_name (drop k names) ≡ bad_file_name names → is_good_name (get_or names k d) ≡ true
+      → bad_file_name (drop (k + 1) names) ≡ bad_file_name names
   good_name_here so_far good =
       sym (ap (λ (b : Bool). cond (not b) (Some (get_or names k d)) (bad_file_name (drop (k + 1) names))) good) ∙ sym (ap bad_file_name drop_name) ∙ so_far
 
 -- what stands behind the last `/`
-pub base_from : (name : List ℕ) (from : ℕ) → from ≤ length name → ((k : ℕ) → from ≤ k → k < length name → (slice_index name k == 47) ≡ false) → (0 < from → slice_index name (from - 1) ≡ 47)
+pub base_from : (name : List ℕ) (from : ℕ) → from ≤ length name → ((k : ℕ) → from ≤ k → k < length name → (slice_index name k == 47) ≡ false) → (0 < from
+    → slice_index name (from - 1) ≡ 47)
     → drop from name ≡ base_name name
 base_from name from within passed stop =
     let suffix = suffix_len_is (λ (x : ℕ). not (x == 47)) name from 0 within (λ k a b. ap not (passed k a b)) (λ some. ap (λ (n : ℕ). not (n == 47)) (stop some)) in
@@ -53,7 +57,8 @@ base_from name from within passed stop =
 module _ (names : List (List ℕ)) (k : ℕ) (d : List ℕ) (within : k < length names) where
   -- a base name that stands already
   pub same_name_here : same_base_behind (take k names) (drop k names) ≡ same_base_name names
-      → list_any (λ other. bytes_eq (base_name other) (base_name (get_or names k d))) (take k names) ≡ true → same_name_fault names ≡ same_name_of (get_or names k d)
+      → list_any (λ other. bytes_eq (base_name other) (base_name (get_or names k d))) (take k names) ≡ true
+      → same_name_fault names ≡ same_name_of (get_or names k d)
   same_name_here so_far again = ap (λ (o : Option (List ℕ)). option_map fault.SameBaseName o)
       (sym so_far ∙ ap (same_base_behind (take k names)) (drop_name names k d within)
       ∙ ap (λ (b : Bool). cond b (Some (get_or names k d)) (same_base_behind (take k names ++ get_or names k d ∷ []) (drop (k + 1) names))) again)

@@ -69,13 +69,15 @@ done_unless_wrong held asked answer few on none (reported rows fewer h again ran
 
 -- ---- a `cover` that only stores the merged file
 
-to_merge : (held : Names) (out : List ℕ) (files : List (List ℕ)) (a : Answer) → IsCoverAnswer held (writing out files) a → IsMergeAnswer held (merge_to out files) a
+to_merge : (held : Names) (out : List ℕ) (files : List (List ℕ)) (a : Answer) → IsCoverAnswer held (writing out files) a
+    → IsMergeAnswer held (merge_to out files) a
 to_merge held out files a (too_many many) = merge.too_many many
 to_merge held out files a (unread answer few g) = merge.unread answer few (as_reading _ (Some answer) g)
 to_merge held out files a (unreported answer few g is) = absurd (stops_apart answer is)
 to_merge held out files a (reported rows few g none ranks) = merge.all_merged (records_in (all_arrivals held keeps_all files)) few (as_reading _ None g)
 
-from_merge : (held : Names) (out : List ℕ) (files : List (List ℕ)) (a : Answer) → IsMergeAnswer held (merge_to out files) a → IsCoverAnswer held (writing out files) a
+from_merge : (held : Names) (out : List ℕ) (files : List (List ℕ)) (a : Answer) → IsMergeAnswer held (merge_to out files) a
+    → IsCoverAnswer held (writing out files) a
 from_merge held out files a (merge.too_many many) = too_many many
 from_merge held out files a (merge.unread answer few r) = unread answer few (as_gathering _ (Err answer) r)
 from_merge held out files a (merge.all_merged records few r) =

@@ -1,5 +1,6 @@
 -- What reading data files with a filter and a ranking comes to.
-use Rattle.std.proofs.Common.{◌≡◌, ℕ, ◌+◌, suc, Bool, false, List, [], ◌∷◌, ◌++◌, length, refl, sym, ◌∙◌, ap, subst, Option, None, Some, Result, Ok, Err, arith, append_assoc, length-append}
+use Rattle.std.proofs.Common.{◌≡◌, ℕ, ◌+◌, suc, Bool, false, List, [], ◌∷◌, ◌++◌, length, refl, sym, ◌∙◌, ap, subst, Option, None, Some, Result, Ok, Err, arith}
+use Rattle.std.proofs.Common.{append_assoc, length-append}
 use Rattle.cov_dat.specs.declared.record_list.Record.{Record}
 use Rattle.command_ending.specs.Answer.{Answer}
 use Rattle.command_ending.proofs.CutLemmas.{at_one, sooner, later, cuts}
@@ -14,7 +15,8 @@ pub some_same : (o : Option Answer) (a b : Answer) → o ≡ Some a → o ≡ So
 some_same o a b one two = cc
 
 -- arrivals that are all read have no first reason to stop
-read_stops : (ranks : Bool) (arrivals before : List Arrival) (a : Arrival) (after : List Arrival) (answer : Answer) → IsGathered ranks arrivals → arrivals ≡ before ++ a ∷ after
+read_stops : (ranks : Bool) (arrivals before : List Arrival) (a : Arrival) (after : List Arrival) (answer : Answer) → IsGathered ranks arrivals
+    → arrivals ≡ before ++ a ∷ after
     → stops_for ranks before a ≡ Some answer → ⊥
 read_stops ranks arrivals before a after answer on split reason = none_some (stops_for ranks before a) answer (on before a after split) reason
 
@@ -69,7 +71,8 @@ append_none (x ∷ xs) = ap (λ (ys : List Arrival). x ∷ ys) (append_none xs)
 pub gathers_on : (ranks : Bool) (done rest : List Arrival) → IsGathered ranks done → Gathers ranks (done ++ rest) (first_stop ranks done rest)
 gathers_on ranks done [] on = subst (λ (l : List Arrival). Gathers ranks l None) (sym (append_none done)) (all_gathered on)
 gathers_on ranks done (a ∷ rest) on =
-    elim (stops_for ranks done a) as (λ o. stops_for ranks done a ≡ o → Gathers ranks (done ++ a ∷ rest) (or_later o (first_stop ranks (done ++ a ∷ []) rest))) [
+    elim (stops_for ranks done a) as (λ o. stops_for ranks done a ≡ o
+    → Gathers ranks (done ++ a ∷ rest) (or_later o (first_stop ranks (done ++ a ∷ []) rest))) [
       | None ↦ λ e. subst (λ (l : List Arrival). Gathers ranks l (first_stop ranks (done ++ a ∷ []) rest)) (append_assoc done (a ∷ []) rest)
           (gathers_on ranks (done ++ a ∷ []) rest (read_more ranks done a on e))
       | Some answer ↦ λ e. stops_at done a rest answer refl on e
@@ -115,6 +118,7 @@ ok_err : (a : List Record) (b : Answer) (r : Result (List Record) Answer) → r 
 ok_err a b r one two = absurd (cc)
 
 -- all that is read
-pub read_whole : (arrivals : List Arrival) (records : List Record) (r : Result (List Record) Answer) → IsReading arrivals r → r ≡ Ok records → records_in arrivals ≡ records
+pub read_whole : (arrivals : List Arrival) (records : List Record) (r : Result (List Record) Answer) → IsReading arrivals r → r ≡ Ok records
+    → records_in arrivals ≡ records
 read_whole arrivals records r (cover.all_read on) is = ok_same (records_in arrivals) records (Ok (records_in arrivals)) refl is
 read_whole arrivals records r (cover.stops_at before a after answer split on reason) is = absurd (ok_err records answer (Err answer) is refl)

@@ -77,7 +77,11 @@ counts-four = entries-sorted four refl
 
 annotated : IsCoverAnswer held asked (done (text_of (codes "Total coverage (1/3) 33.33%" ∷ []))
     ((codes "i", text_of (codes "TN:vcov" ∷ codes "SF:s.v" ∷ codes "DA:1,9" ∷ codes "DA:2,10" ∷ codes "DA:3,9" ∷ codes "end_of_record" ∷ []))
-    ∷ (codes "d/s.v", text_of ((9 ∷ codes "// vcov annotation") ∷ (codes "%000009" ++ 9 ∷ codes "a") ∷ (codes " 000010" ++ 9 ∷ codes "b") ∷ (codes "%000009" ++ 9 ∷ codes "c") ∷ [])) ∷ []))
+    ∷ (
+      codes "d/s.v",
+      text_of ((9 ∷ codes "// vcov annotation") ∷ (codes "%000009" ++ 9 ∷ codes "a") ∷ (codes " 000010" ++ 9 ∷ codes "b") ∷ (codes "%000009"
+          ++ 9 ∷ codes "c") ∷ []),
+    ) ∷ []))
 unfolding digits is_utf8 chars lib.Utf8.encode
 annotated = subst (λ c. IsCoverAnswer held asked (done (cover_out asked c []) (cover_stores held asked c))) counts-four
     (reported [] (omega arith) (gathers false (arrivals_for held asked)) (ap (report_refusal held asked) counts-four ∙ refl) tt)

@@ -1,5 +1,6 @@
 -- Which reports a `cover` makes, why it makes none, and what it prints and stores (docs/commands.md, "cover").
-use Rattle.std.specs.Prelude.{ℕ, ◌&&◌, ◌||◌, Bool, not, nat_lt, is_some, is_none, List, [], ◌∷◌, ◌++◌, length, map, codes, Option, None, Some, option_map, option_to_list, if◌then◌else◌}
+use Rattle.std.specs.Prelude.{ℕ, ◌&&◌, ◌||◌, Bool, not, nat_lt, is_some, is_none, List, [], ◌∷◌, ◌++◌, length, map, codes, Option, None, Some, option_map}
+use Rattle.std.specs.Prelude.{option_to_list, if◌then◌else◌}
 use Rattle.std.specs.FinMap.{entries}
 use Rattle.std.specs.List.{flat_map}
 use Rattle.std.specs.Option.{option_map_or}

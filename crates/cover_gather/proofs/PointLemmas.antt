@@ -1,5 +1,6 @@
 -- Numbers in ascending order, each once.
-use Rattle.std.proofs.Common.{◌≡◌, ◌≢◌, ℕ, zero, suc, ◌+◌, ◌<◌, ◌≤◌, Bool, true, false, cond, ◌||◌, eqb, max, List, [], ◌∷◌, filter, refl, sym, ◌∙◌, ap, subst, arith, ⊎_elim}
+use Rattle.std.proofs.Common.{◌≡◌, ◌≢◌, ℕ, zero, suc, ◌+◌, ◌<◌, ◌≤◌, Bool, true, false, cond, ◌||◌, eqb, max, List, [], ◌∷◌, filter, refl, sym, ◌∙◌, ap, subst}
+use Rattle.std.proofs.Common.{arith, ⊎_elim}
 use Rattle.std.specs.List.{AllByRecursion, range_with_len, dedup, dedup_from}
 use Rattle.std.specs.List.Sorted.{IsPermutation, IsSorted, IsStrictlySortedBy}
 use Rattle.std.specs.Ordering.{nat_cmp}

@@ -22,7 +22,8 @@ use Rattle.command_ending.proofs.PutLemmas.{always_told, if_told, if_told_both}
 use Rattle.command_ending.proofs.StopLemmas.{refusal_weaker, stops_weaker}
 use Rattle.command_cover.specs.CoverReading.{Arrival, arrived, ended, stopped, arrivals_of, file_arrivals, all_arrivals}
 use Rattle.command_cover.proofs.StepLemmas.{merge_limit}
-use Rattle.cover_gather.specs.Steps.{TallyState, PassesLimit, IsReadingLimit, of_data, of_pairs, closed, continued, file_promise, files_promise, limit_at_end, one_arrival, or_limit, record_of, tallied, with_test}
+use Rattle.cover_gather.specs.Steps.{TallyState, PassesLimit, IsReadingLimit, of_data, of_pairs, closed, continued, file_promise, files_promise, limit_at_end}
+use Rattle.cover_gather.specs.Steps.{one_arrival, or_limit, record_of, tallied, with_test}
 
 -- ---- one step
 

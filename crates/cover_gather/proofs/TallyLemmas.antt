@@ -1,5 +1,6 @@
 -- What is kept of arrivals stands for what came.
-use Rattle.std.proofs.Common.{◌≡◌, ℕ, Bool, true, false, cond, List, [], ◌∷◌, ◌++◌, map, refl, sym, ◌∙◌, ap, subst, Option, None, Some, Result, Ok, Err, append_assoc}
+use Rattle.std.proofs.Common.{◌≡◌, ℕ, Bool, true, false, cond, List, [], ◌∷◌, ◌++◌, map, refl, sym, ◌∙◌, ap, subst, Option, None, Some, Result, Ok, Err}
+use Rattle.std.proofs.Common.{append_assoc}
 use Rattle.std.specs.Prelude.{nat_le, option_map}
 use Rattle.std.specs.List.{AllByRecursion, IsDistinct}
 use Rattle.std.specs.Str.{bytes_eq}
@@ -17,8 +18,10 @@ use Rattle.cover_answer.specs.Gathering.{covered_points, covers_in, stops_for, t
 use Rattle.cover_answer.proofs.GatherLemmas.{first_stop, or_later}
 use Rattle.cover_gather.specs.Points.{ascending}
 use Rattle.cover_gather.specs.Steps.{TallyState, closed, continued, limit_at_end, no_tally, or_limit, tallied, with_test}
-use Rattle.cover_gather.proofs.KeyLemmas.{AllKnown, Keys, all_grown, all_more, keys_added, known_new, merged_distinct, number, number_new, numbers, numbers_grown, numbers_more}
-use Rattle.cover_gather.proofs.CoverLemmas.{IsPlain, open_behind, open_end, open_record, plain_end, plain_record, points_in_order, tests_end, tests_grown, tests_known, tests_record}
+use Rattle.cover_gather.proofs.KeyLemmas.{AllKnown, Keys, all_grown, all_more, keys_added, known_new, merged_distinct, number, number_new, numbers}
+use Rattle.cover_gather.proofs.KeyLemmas.{numbers_grown, numbers_more}
+use Rattle.cover_gather.proofs.CoverLemmas.{IsPlain, open_behind, open_end, open_record, plain_end, plain_record, points_in_order, tests_end, tests_grown}
+use Rattle.cover_gather.proofs.CoverLemmas.{tests_known, tests_record}
 
 -- What is kept of a ranking: the points of the tests, and the numbers of the open file's records.
 pub record Ranked (done : List Arrival) (t : TallyState) : Type 0 where

@@ -1,5 +1,6 @@
 -- Private: the reading of data files with a filter and a ranking, by counts in place of records, step by step.
-use Rattle.std.specs.Prelude.{◌≡◌, ℕ, ◌&&◌, Bool, true, false, nat_le, List, [], ◌∷◌, ◌++◌, map, filter, Option, None, Some, Result, Ok, Err, Contains, if◌then◌else◌}
+use Rattle.std.specs.Prelude.{◌≡◌, ℕ, ◌&&◌, Bool, true, false, nat_le, List, [], ◌∷◌, ◌++◌, map, filter, Option, None, Some, Result, Ok, Err, Contains}
+use Rattle.std.specs.Prelude.{if◌then◌else◌}
 use Rattle.cov_types.specs.declared.limit.LimitName.{LimitName}
 use Rattle.cov_types.specs.declared.limit.LimitName.TheVariants.{CoveredPairs}
 use Rattle.cov_dat.specs.Merging.{Counts, added, limit_passed, number_of}

@@ -10,7 +10,8 @@ other n not_so = elim (n == 47) as (λ b. (n == 47) ≡ b → not b ≡ true) [
   | false ↦ λ e. refl
 ] refl
 
-base_from : (name : List ℕ) (from : ℕ) → from ≤ length name → ((k : ℕ) → from ≤ k → k < length name → get_or name k 0 ≡ 47 → ⊥) → (0 < from → get_or name (from - 1) 0 ≡ 47)
+base_from : (name : List ℕ) (from : ℕ) → from ≤ length name → ((k : ℕ) → from ≤ k → k < length name → get_or name k 0 ≡ 47 → ⊥) → (0 < from
+    → get_or name (from - 1) 0 ≡ 47)
     → drop from name ≡ base_name name
 base_from name from within passed stop =
     let suffix = suffix_len_is (λ (x : ℕ). not (x == 47)) name from 0 within (λ k a b. other (get_or name k 0) (passed k a b)) (λ some. ap (λ (n : ℕ). not (n == 47)) (stop some)) in

@@ -13,7 +13,8 @@ use Rattle.report_text.specs.declared.options.ReportOptions.{ReportOptions}
 use Rattle.report_text.specs.declared.report_fault.ReportFault.{ReportFault}
 use Rattle.report_text.specs.declared.report_fault.ReportFault.TheVariants as fault
 use Rattle.command_ending.specs.Answer.{Answer, over_limit, absent, bad_data}
-use Rattle.cover_answer.specs.Reports.{bad_file, count_reasons, first_reason, reason_if, report_reasons, source_bytes, source_of, source_reasons, sources_reasons}
+use Rattle.cover_answer.specs.Reports.{bad_file, count_reasons, first_reason, reason_if, report_reasons, source_bytes, source_of, source_reasons}
+use Rattle.cover_answer.specs.Reports.{sources_reasons}
 use Rattle.cover_reports.specs.Sources.{annotating_reasons, answer_to, or_later, refused_from}
 
 -- what a fault says, if there is one
@@ -87,7 +88,8 @@ source_left : (held : Names) (counts : Counts) (before : List (List ℕ)) (left 
 source_left held counts before left file sum =
     ap (λ (b : Bool). reason_if (is_none (held file)) (absent file) ∷ reason_if b (over_limit SourceBytes)
     ∷ option_map (λ lines. bad_data file lines (codes "ShortSource")) (short_source counts file (source_of held file)) ∷ [])
-    (same_passed (source_bytes held before) left (most SourceBytes) (source_bytes held (before ++ file ∷ [])) (length (source_of held file)) sum (total_append held before file))
+    (same_passed (source_bytes held before) left (most SourceBytes) (source_bytes held (before
+    ++ file ∷ [])) (length (source_of held file)) sum (total_append held before file))
 
 within_sound : (a b : Bool) (x y : Answer) (rest : List (Option Answer)) → first_reason (reason_if a x ∷ reason_if b y ∷ rest) ≡ None → b ≡ false
 within_sound true b x y rest none = absurd (cc)
@@ -103,7 +105,8 @@ sources_left held counts before left (file ∷ files) sum =
     let size = length (source_of held file) in
     let one = annotating_reasons counts left (held file) file in
     first_append (source_reasons held counts before file) (sources_reasons held counts (before ++ file ∷ []) files)
-    ∙ ap (λ (rs : List (Option Answer)). or_later (first_reason rs) (first_reason (sources_reasons held counts (before ++ file ∷ []) files))) (source_left held counts before left file sum)
+    ∙ ap (λ (rs : List (Option Answer)). or_later (first_reason rs) (first_reason (sources_reasons held counts (before
+    ++ file ∷ []) files))) (source_left held counts before left file sum)
     ∙ (elim (first_reason one) as (λ o. first_reason one ≡ o → or_later o (first_reason (sources_reasons held counts (before ++ file ∷ []) files))
     ≡ or_later o (refused_from held counts (left - size) files)) [
       | None ↦ λ e. sources_left held counts (before ++ file ∷ []) (left - size) files

@@ -12,7 +12,8 @@ use Rattle.command_ending.specs.declared.ending.Ending.{Ending}
 use Rattle.command_ending.proofs.PutLemmas.{if_told, if_told_both}
 use Rattle.command_ending.proofs.StopLemmas.{stops_weaker}
 use Rattle.cover_answer.specs.Reports.{first_reason, source_of, stored_name}
-use Rattle.cover_reports.specs.Sources.{annotating_promise, annotating_reasons, names_in, or_later, refused_from, sources_promise, store_of, IsAnnotated, IsStored}
+use Rattle.cover_reports.specs.Sources.{annotating_promise, annotating_reasons, names_in, or_later, refused_from, sources_promise, store_of, IsAnnotated}
+use Rattle.cover_reports.specs.Sources.{IsStored}
 
 -- a source that is annotated goes on to those behind it
 goes_on : (held : Names) (options : Options) (counts : Counts) (folder : List ℕ) (files : List (List ℕ)) (k left rest first : ℕ)

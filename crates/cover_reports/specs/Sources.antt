@@ -1,5 +1,6 @@
 -- Private: the sources of annotated files, step by step.
-use Rattle.std.specs.Prelude.{◌≡◌, ℕ, ◌-◌, nat_lt, false, is_none, List, [], ◌∷◌, ◌++◌, length, map, codes, Contains, Option, None, Some, option_map, if◌then◌else◌}
+use Rattle.std.specs.Prelude.{◌≡◌, ℕ, ◌-◌, nat_lt, false, is_none, List, [], ◌∷◌, ◌++◌, length, map, codes, Contains, Option, None, Some, option_map}
+use Rattle.std.specs.Prelude.{if◌then◌else◌}
 use Rattle.std.specs.Option.{option_map_or}
 use Rattle.cov_types.specs.declared.limit.LimitName.TheVariants.{SourceBytes}
 use Rattle.cov_port.specs.Files.{Names}

@@ -1,5 +1,6 @@
 -- Where lines begin.
-use Rattle.std.proofs.Common.{◌≡◌, ℕ, suc, ◌+◌, ◌<◌, ◌≤◌, Bool, true, false, eqb, cond, List, [], ◌∷◌, ◌++◌, length, refl, sym, ◌∙◌, ap, arith, length-append, length-drop, append_assoc, take, drop, ◌-◌}
+use Rattle.std.proofs.Common.{◌≡◌, ℕ, suc, ◌+◌, ◌<◌, ◌≤◌, Bool, true, false, eqb, cond, List, [], ◌∷◌, ◌++◌, length, refl, sym, ◌∙◌, ap, arith, length-append}
+use Rattle.std.proofs.Common.{length-drop, append_assoc, take, drop, ◌-◌}
 use Rattle.std.specs.Prelude.{◌&&◌, not, filter, slice_index}
 use Rattle.std.proofs.lemmas.Bool.{eqb-true, true≢false}
 use Rattle.cvd_text.specs.Pieces.{Piece, a_word, feed, pieces_of, onto_word, empty_word}

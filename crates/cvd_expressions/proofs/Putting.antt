@@ -6,7 +6,8 @@ use Rattle.cvd_nodes.specs.Trees.{push}
 use Rattle.cvd_nodes.specs.declared.node.Node.{Node}
 use Rattle.cvd_expressions.specs.Builds.{AllBuilt, Builds, IsBuilt, Puts, arity, tops}
 use Rattle.cvd_expressions.specs.declared.built.Built.{Built}
-use Rattle.cvd_expressions.proofs.Stacks.{tops-more, all_before, last_built, alone_0, alone_1, alone_2, alone_3, few_1_0, few_2_0, few_2_1, few_3_0, few_3_1, few_3_2}
+use Rattle.cvd_expressions.proofs.Stacks.{tops-more, all_before, last_built, alone_0, alone_1, alone_2, alone_3, few_1_0, few_2_0, few_2_1, few_3_0, few_3_1}
+use Rattle.cvd_expressions.proofs.Stacks.{few_3_2}
 
 pub puts_0 : (d : Design) (n : Node) (bs : List Built) (held : Option Built) (us : List Typed) → arity n ≡ 0 → AllBuilt d bs → push n (tops bs) ≡ Some us
     → ((t : Typed) → push n [] ≡ Some (t ∷ []) → Builds d t held) → Puts d held bs us

@@ -48,7 +48,8 @@ pub refused_var : (old new : Reading) (fault : ReadFault) → Refused (marks num
 refused_var =
     tokens.refused_front ℕ (List ℕ) Input number_tokens (λ w. word w ∷ []) input_tokens input_by input_parts (λ i. refl) (λ i. refl) (λ p. refl) apart_number []
 
-pub refused_name : (old mid new : Reading) (v : ℕ) (fault : ReadFault) → Takes (marks number_tokens) old mid v → Refused (marks (λ w. word w ∷ [])) mid fault new
+pub refused_name : (old mid new : Reading) (v : ℕ) (fault : ReadFault) → Takes (marks number_tokens) old mid v
+    → Refused (marks (λ w. word w ∷ [])) mid fault new
     → Refused (marks input_tokens) old fault new
 refused_name =
     tokens.refused_back ℕ (List ℕ) Input number_tokens (λ w. word w ∷ []) input_tokens input_by input_parts (λ i. refl) (λ i. refl) (λ p. refl) apart_number
@@ -68,7 +69,8 @@ module _ (vars : List Var) where
   abbrev pub section : List Input → List Mark
   section is = marks_alone (input_lines (design_of vars is []))
 
-  pub alike : (is : List Input) → section is ≡ row_marks (heading (codes "inputs") (length is) (may_be (length is))) ++ marks_alone (lines_behind (each (length is)) [] is)
+  pub alike : (is : List Input) → section is ≡ row_marks (heading (codes "inputs") (length is) (may_be (length is)))
+      ++ marks_alone (lines_behind (each (length is)) [] is)
   alike is = refl
 
   pub apart_rows : (s : ℕ × List Input) → Apart fits (row each s)

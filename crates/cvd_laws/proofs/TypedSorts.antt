@@ -9,7 +9,8 @@ use Rattle.cvd_laws.specs.Expressions.{is_token}
 use Rattle.cvd_text.specs.Expressions.{tokens_of}
 use Rattle.spelling_laws.specs.Spelled.{all_fit, Apart, Awaits, OneSort}
 use Rattle.spelling_laws.proofs.Sorts.{sorts_one, sorts_pair}
-use Rattle.cvd_laws.proofs.Typeds.{Head, a_number, a_variable, a_word, a_part, zeros, signs, cut, unary, binary, join, repeats, choice, Parts, parts_spelled, whole_spelled, head_token, from, alike, sNumber, sHex, sSign, sign_token, same_heads, apart_number, apart_sign, apart_typed}
+use Rattle.cvd_laws.proofs.Typeds.{Head, a_number, a_variable, a_word, a_part, zeros, signs, cut, unary, binary, join, repeats, choice, Parts, parts_spelled}
+use Rattle.cvd_laws.proofs.Typeds.{whole_spelled, head_token, from, alike, sNumber, sHex, sSign, sign_token, same_heads, apart_number, apart_sign, apart_typed}
 use Rattle.spelling_laws.proofs.One as single
 use Rattle.spelling_laws.proofs.Fitting.{head_or}
 

@@ -57,7 +57,8 @@ no_dash n e = true≢false (sym (decimal_digits n) ∙ sym (ap (list_all (is_dig
 
 pub same_counters : (xs ys : List ℕ) → counters_text xs ≡ counters_text ys → xs ≡ ys
 same_counters [] [] e = refl
-same_counters [] (y ∷ ys) e = absurd (no_dash y (ap (head_or []) (ap (slice_split is_comma) e ∙ cut_separated (decimal_text y) (map decimal_text ys) (all_clear (y ∷ ys)))))
+same_counters [] (y ∷ ys) e = absurd (no_dash y (ap (head_or []) (ap (slice_split is_comma) e
+    ∙ cut_separated (decimal_text y) (map decimal_text ys) (all_clear (y ∷ ys)))))
 same_counters (x ∷ xs) [] e =
     absurd (no_dash x (ap (head_or []) (ap (slice_split is_comma) (sym e) ∙ cut_separated (decimal_text x) (map decimal_text xs) (all_clear (x ∷ xs)))))
 same_counters (x ∷ xs) (y ∷ ys) e =

@@ -26,7 +26,8 @@ module _ {A S : Type 0} (tokens : A → List Token) (flag : S → A → Bool) wh
 
   pub apart_row : Apart is_token tokens → (s : S) → Apart fits (row s)
   apart_row apart s x =
-      single.apart_via fits ((y : A) × Unit {0}) A (λ p. p.0) (λ y. (y, tt)) (λ y. refl) (λ p. marks tokens p.0 ++ line_marks (flag s p.0) p.1) (row s) (λ y. refl) x
+      single.apart_via fits ((y : A) × Unit {0}) A (λ p. p.0) (λ y. (y, tt)) (λ y. refl) (λ p. marks tokens p.0
+      ++ line_marks (flag s p.0) p.1) (row s) (λ y. refl) x
       (after.apart_pair fits A (λ y. Unit {0}) (marks tokens) (λ y. line_marks (flag s y)) x tt (apart_marks tokens x (apart x)) (apart_end (flag s x) tt))
 
 -- ---- headings

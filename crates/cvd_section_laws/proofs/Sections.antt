@@ -24,7 +24,8 @@ use Rattle.cvd_text.specs.Tokens.{Token, word, number, hex, counters, words_of}
 use Rattle.cvd_text.specs.Lines.{Load, Line, line, stands}
 use Rattle.cvd_text.specs.Pieces.{Mark, token, line_end, fits, marks_of}
 use Rattle.cvd_text.specs.Steps.{Around, body_lines}
-use Rattle.cvd_text.specs.Sections.{heading, kind_word, process_word, var_line, var_lines, input_numbers, is_input_line, input_lines, output_lines, process_lines, processes_lines, toggle_lines, has_bit, is_below, are_below, point_lines}
+use Rattle.cvd_text.specs.Sections.{heading, kind_word, process_word, var_line, var_lines, input_numbers, is_input_line, input_lines, output_lines}
+use Rattle.cvd_text.specs.Sections.{process_lines, processes_lines, toggle_lines, has_bit, is_below, are_below, point_lines}
 use Rattle.cvd_cursor.specs.Numerals.{number_tokens, hex_tokens}
 use Rattle.cvd_cursor.specs.Reads.{marks, line_marks}
 use Rattle.spelling_laws.specs.Spelled.{Apart}

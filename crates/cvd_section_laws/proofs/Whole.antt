@@ -17,7 +17,8 @@ use Rattle.spelling_laws.proofs.Then as after
 use Rattle.cvd_step_laws.specs.LineMarks.{load_behind, with_vars}
 use Rattle.cvd_step_laws.proofs.LineMarks.{marks_plain, marks_join}
 use Rattle.cvd_section_laws.proofs.Rows.{head_marks, heading_tokens, apart_head_marks}
-use Rattle.cvd_section_laws.proofs.Sections.{with_inputs, with_outputs, with_processes, apart_vars, apart_inputs, apart_outputs, apart_processes, apart_toggles, apart_points}
+use Rattle.cvd_section_laws.proofs.Sections.{with_inputs, with_outputs, with_processes, apart_vars, apart_inputs, apart_outputs, apart_processes, apart_toggles}
+use Rattle.cvd_section_laws.proofs.Sections.{apart_points}
 
 -- ---- from the last section to the first: its lines behind a load, and what comes behind them
 
@@ -25,7 +26,8 @@ module _ {A B : Type 0} (lines : A → List Line) (more : A → Load → B → L
   abbrev pub section_then : Load → (a : A) × B → List Mark
   section_then load p = marks_of load (lines p.0) ++ more p.0 (load_behind load (lines p.0)) p.1
 
-  pub apart_then : (load : Load) → Apart fits (λ a. marks_of load (lines a)) → ((a : A) (load : Load) → Apart fits (more a load)) → Apart fits (section_then load)
+  pub apart_then : (load : Load) → Apart fits (λ a. marks_of load (lines a)) → ((a : A) (load : Load) → Apart fits (more a load))
+      → Apart fits (section_then load)
   apart_then load first second p =
       after.apart_pair fits A (λ a. B) (λ a. marks_of load (lines a)) (λ a. more a (load_behind load (lines a))) p.0 p.1 (first p.0)
       (second p.0 (load_behind load (lines p.0)) p.1)

@@ -40,11 +40,13 @@ module _ (around : Around) (deep : ℕ) (w : Within) where
   pub takes_no_step : (old : Reading) → Takes turn old old []
   takes_no_step = lists.takes_none Step Within (block_step around deep) (behind_step around deep) w
 
-  pub takes_step : (steps : List Step) (one : Step) (old mid new : Reading) → Takes turn old mid steps → Takes (block_step around deep (there steps)) mid new one
+  pub takes_step : (steps : List Step) (one : Step) (old mid new : Reading) → Takes turn old mid steps
+      → Takes (block_step around deep (there steps)) mid new one
       → Takes turn old new (steps ++ one ∷ [])
   takes_step = lists.takes_more Step Within (block_step around deep) (behind_step around deep) w
 
-  pub takes_end : (steps : List Step) (old mid new : Reading) → Takes turn old mid steps → Takes (λ (u : Unit {0}). block_end around deep (there steps)) mid new tt
+  pub takes_end : (steps : List Step) (old mid new : Reading) → Takes turn old mid steps
+      → Takes (λ (u : Unit {0}). block_end around deep (there steps)) mid new tt
       → Takes (steps_marks around deep w) old new steps
   takes_end = lists.takes_end Step Within (block_step around deep) (behind_step around deep) (block_end around deep) w
 

@@ -25,7 +25,8 @@ use Rattle.cvd_laws.proofs.Typeds as typeds
 use Rattle.cvd_laws.proofs.Targets.{apart_target}
 use Rattle.cvd_laws.proofs.Pieces.{apart_piece}
 use Rattle.cvd_step_laws.specs.LineMarks.{each_tokens, unchanged}
-use Rattle.cvd_step_laws.specs.StepMarks.{this_word, targets_marks, pieces_marks, item_marks, behind_item, items_marks, ItemParts, item_of, item_parts, StepHead, a_set, a_later, an_if, a_case, a_show, a_finish, a_stop, a_count, step_word, step_tokens}
+use Rattle.cvd_step_laws.specs.StepMarks.{this_word, targets_marks, pieces_marks, item_marks, behind_item, items_marks, ItemParts, item_of, item_parts}
+use Rattle.cvd_step_laws.specs.StepMarks.{StepHead, a_set, a_later, an_if, a_case, a_show, a_finish, a_stop, a_count, step_word, step_tokens}
 use Rattle.cvd_step_laws.proofs.StepParts.{made_item, parts_of_item, item_alike}
 
 -- ---- single marks

@@ -20,7 +20,11 @@ use Rattle.cvd_text.specs.Targets.{target_tokens, piece_tokens}
 use Rattle.cvd_text.specs.Steps.{Around, Spot, spot, Sort, sets, other, StepText, ArmText, assigning, step_lines, arm_lines, lines_of_step, in_turn, item_line}
 use Rattle.spelling_laws.specs.Lists.{many, state_behind, all_marks}
 use Rattle.cvd_step_laws.specs.LineMarks.{load_behind, each_tokens, unchanged}
-use Rattle.cvd_step_laws.specs.StepMarks.{step_marks, lines_of_arm, arm_lines_at, arm_marks, behind_arm, item_lines_at, item_marks, behind_item, block_lines_at, block_marks, if_line, case_line, show_line, begin_line, end_line, arm_line, Within, within, block_step, behind_step, Block, block_parts, ItemParts, item_of, item_parts, ArmParts, behind_items, arm_parts, StepHead, a_set, a_later, an_if, a_case, a_show, a_finish, a_stop, a_count, StepParts, Assigned, Tested, Chosen, Shown, assigned_marks, tested_marks, chosen_marks, shown_marks, StepWhole, step_whole}
+use Rattle.cvd_step_laws.specs.StepMarks.{step_marks, lines_of_arm, arm_lines_at, arm_marks, behind_arm, item_lines_at, item_marks, behind_item, block_lines_at}
+use Rattle.cvd_step_laws.specs.StepMarks.{block_marks, if_line, case_line, show_line, begin_line, end_line, arm_line, Within, within, block_step, behind_step}
+use Rattle.cvd_step_laws.specs.StepMarks.{Block, block_parts, ItemParts, item_of, item_parts, ArmParts, behind_items, arm_parts, StepHead, a_set, a_later}
+use Rattle.cvd_step_laws.specs.StepMarks.{an_if, a_case, a_show, a_finish, a_stop, a_count, StepParts, Assigned, Tested, Chosen, Shown, assigned_marks}
+use Rattle.cvd_step_laws.specs.StepMarks.{tested_marks, chosen_marks, shown_marks, StepWhole, step_whole}
 use Rattle.cvd_step_laws.proofs.LineMarks.{marks_join, marks_plain, each_joined, load_joined, rows_joined, tokens_listed, tokens_behind}
 
 -- ---- blocks
@@ -100,7 +104,8 @@ module _ (around : Around) (width deep : ℕ) (before : Load) where
       (marks_join before rows block
       ∙ ap (λ l. marks_of before l ++ marks_of (load_behind before l) block) (rows_joined (item_line around width) items)
       ∙ ap (λ z. z ++ marks_of (load_behind before (flat_map (item_lines_at around width) items)) block) (each_joined (item_lines_at around width) before items)
-      ∙ ap (λ b. all_marks (item_marks around width) (behind_item around width) before items ++ marks_of b block) (load_joined (item_lines_at around width) before
+      ∙ ap (λ b. all_marks (item_marks around width) (behind_item around width) before items
+      ++ marks_of b block) (load_joined (item_lines_at around width) before
       items))
       ∙ ap (λ n. token (word (codes "arm")) ∷ token (number n) ∷ line_end (stands before (arm_line n)) ∷ (all_marks (item_marks around width)
       (behind_item around width) before items ++ marks_of (behind_items around width before items) block)) p.1.1.1.0.count
@@ -160,7 +165,8 @@ module _ (around : Around) (before : Load) (at : Spot) where
       let value = p.1.1.0 in
       let mark = line_end (stands before (assigning around at sort name targets value)) in
       ap (λ z. token (word name) ∷ token (number (length targets)) ∷ z) (tokens_behind target_tokens targets (tokens_of value) (mark ∷ []))
-      ∙ ap (λ n. token (word name) ∷ token (number n) ∷ (all_marks (each_tokens target_tokens) unchanged tt targets ++ (map token (tokens_of value) ++ mark ∷ []))) p.1.0.count
+      ∙ ap (λ n. token (word name) ∷ token (number n) ∷ (all_marks (each_tokens target_tokens) unchanged tt targets ++ (map token (tokens_of value)
+      ++ mark ∷ []))) p.1.0.count
 
   chosen_alike : (p : Chosen) → Lines (step_lines around (s.Case p.1.0 (map (lines_of_arm around) p.1.1.1.0.items) (map (lines_of_step around) p.1.1.1.1)))
       ≡ token (word (codes "case")) ∷ chosen_marks around before at p

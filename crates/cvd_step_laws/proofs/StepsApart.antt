@@ -25,9 +25,14 @@ use Rattle.spelling_laws.proofs.Ended.{apart_ended}
 use Rattle.spelling_laws.proofs.One as single
 use Rattle.spelling_laws.proofs.Then as after
 use Rattle.cvd_step_laws.specs.LineMarks.{load_behind}
-use Rattle.cvd_step_laws.specs.StepMarks.{step_marks, arm_marks, behind_arm, block_lines_at, block_marks, if_line, case_line, show_line, count_line, begin_line, end_line, arm_line, Within, within, block_step, behind_step, block_end, steps_marks, Block, block_parts, ArmParts, behind_items, items_marks, arm_parts, StepHead, an_if, a_case, a_show, step_word, step_tokens, StepParts, step_parts, targets_marks, pieces_marks, assigned_marks, arms_marks, behind_arms, StepWhole, step_whole}
-use Rattle.cvd_step_laws.proofs.StepParts.{steps_of_block, parts_of_block, block_alike, made_arm, parts_of_arm, arm_there, arm_alike, made_step, parts_of_step, layer_parts, step_there, step_alike}
-use Rattle.cvd_step_laws.proofs.PartsApart.{apart_end, apart_targets, apart_pieces, word_then, end_then, number_then, value_then, apart_items, apart_head, end_told}
+use Rattle.cvd_step_laws.specs.StepMarks.{step_marks, arm_marks, behind_arm, block_lines_at, block_marks, if_line, case_line, show_line, count_line, begin_line}
+use Rattle.cvd_step_laws.specs.StepMarks.{end_line, arm_line, Within, within, block_step, behind_step, block_end, steps_marks, Block, block_parts, ArmParts}
+use Rattle.cvd_step_laws.specs.StepMarks.{behind_items, items_marks, arm_parts, StepHead, an_if, a_case, a_show, step_word, step_tokens, StepParts, step_parts}
+use Rattle.cvd_step_laws.specs.StepMarks.{targets_marks, pieces_marks, assigned_marks, arms_marks, behind_arms, StepWhole, step_whole}
+use Rattle.cvd_step_laws.proofs.StepParts.{steps_of_block, parts_of_block, block_alike, made_arm, parts_of_arm, arm_there, arm_alike, made_step, parts_of_step}
+use Rattle.cvd_step_laws.proofs.StepParts.{layer_parts, step_there, step_alike}
+use Rattle.cvd_step_laws.proofs.PartsApart.{apart_end, apart_targets, apart_pieces, word_then, end_then, number_then, value_then, apart_items, apart_head}
+use Rattle.cvd_step_laws.proofs.PartsApart.{end_told}
 
 abbrev pub IsApart : Step → Type 0
 IsApart one = (around : Around) (before : Load) (at : Spot) → ApartAt fits (step_marks around before at) one
@@ -108,7 +113,8 @@ apart_assigned sort name targets value around before at =
     (λ targets q. marks tokens_of q.0 ++ line_marks (stands before (assigning around at sort name targets.items q.0)) q.1) given (value, tt) (apart_targets n given)
     (value_then (λ value. Unit {0}) (λ value. line_marks (stands before (assigning around at sort name targets value))) value tt (apart_end _ tt)))
 
-apart_tested : (test : Typed) (left right : List Step) → AllByRecursion IsApart left → AllByRecursion IsApart right → (around : Around) (before : Load) (at : Spot)
+apart_tested : (test : Typed) (left right : List Step) → AllByRecursion IsApart left → AllByRecursion IsApart right
+    → (around : Around) (before : Load) (at : Spot)
     → ApartAt fits (step_parts around before at an_if) (test, (tt, (left, right)))
 apart_tested test left right p q around before at =
     let behind = added before (if_line around at test).load in

@@ -16,7 +16,8 @@ use Rattle.cvd_text.specs.Lines.{Load, Line, line, added, stands}
 use Rattle.cvd_text.specs.Pieces.{Mark, marks_of}
 use Rattle.cvd_text.specs.Expressions.{tokens_of}
 use Rattle.cvd_text.specs.Targets.{is_expression, target_tokens, piece_tokens, is_piece, piece_nodes}
-use Rattle.cvd_text.specs.Steps.{Around, Spot, spot, Sort, sets, tests, counts, other, speaks, StepText, ArmText, step_line, assigning, step_lines, arm_lines, lines_of_step, block_lines, item_line, may_be_empty, most_deep}
+use Rattle.cvd_text.specs.Steps.{Around, Spot, spot, Sort, sets, tests, counts, other, speaks, StepText, ArmText, step_line, assigning, step_lines, arm_lines}
+use Rattle.cvd_text.specs.Steps.{lines_of_step, block_lines, item_line, may_be_empty, most_deep}
 use Rattle.cvd_cursor.specs.Numerals.{number_tokens, hex_tokens}
 use Rattle.cvd_cursor.specs.Reads.{marks, line_marks}
 use Rattle.spelling_laws.specs.Lists.{Many, state_behind, many_marks, ended_marks}

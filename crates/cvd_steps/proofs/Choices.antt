@@ -20,7 +20,8 @@ use Rattle.cvd_cursor.specs.Places.{Reading}
 use Rattle.cvd_cursor.specs.Reads.{Takes, Refused, marks, line_marks}
 use Rattle.cvd_cursor.specs.declared.fault.ReadFault.{ReadFault}
 use Rattle.cvd_cursor.proofs.Composed.{takes_both, refused_first, refused_second, takes_as, refused_by}
-use Rattle.cvd_step_laws.specs.StepMarks.{this_word, block_marks, case_line, arm_line, arm_marks, arms_marks, behind_arm, behind_arms, items_marks, behind_items, chosen_marks, Chosen, ArmParts}
+use Rattle.cvd_step_laws.specs.StepMarks.{this_word, block_marks, case_line, arm_line, arm_marks, arms_marks, behind_arm, behind_arms, items_marks}
+use Rattle.cvd_step_laws.specs.StepMarks.{behind_items, chosen_marks, Chosen, ArmParts}
 use Rattle.cvd_step_laws.proofs.PartsApart.{apart_end, apart_word, apart_items, number_then, value_then}
 use Rattle.cvd_step_laws.proofs.StepParts.{made_arm, parts_of_arm, arm_alike, arm_alike_to}
 use Rattle.cvd_step_laws.proofs.StepsApart.{apart_arm}
@@ -85,7 +86,8 @@ module _ (around : Around) (before : Load) (at : Spot) where
 
   module _ (first : First) (load : Load) (same : load ≡ behind first) (w : ℕ) (wide : w ≡ width first) (old mid : Reading)
       (h : Takes (case_marks around before at) old mid first) where
-    pub chosen_no_arms : (new : Reading) (fault : ReadFault) → Refused (arms_of w load first.0) mid fault new → Refused (chosen_marks around before at) old fault new
+    pub chosen_no_arms : (new : Reading) (fault : ReadFault) → Refused (arms_of w load first.0) mid fault new
+        → Refused (chosen_marks around before at) old fault new
     chosen_no_arms new fault r =
         refused_by Whole Chosen to from whole_marks (chosen_marks around before at) alike alike_to old new fault
         (refused_second First Rest (case_marks around before at) rest_marks first (apart_first first) old mid new fault h

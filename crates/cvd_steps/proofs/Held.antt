@@ -76,7 +76,8 @@ module _ (around : Around) (before : Load) (at : Spot) where
         ∙ sym (load_if around before at test left right)) m.sums_are;
   }
 
-  pub case_held : (n bytes : ℕ) (on : Typed) (arms : List StepArm) (rest : List Step) (x : CaseLine) (y : Arms) (z : Body) → IsCaseLine around before at n on bytes x
+  pub case_held : (n bytes : ℕ) (on : Typed) (arms : List StepArm) (rest : List Step) (x : CaseLine) (y : Arms) (z : Body)
+      → IsCaseLine around before at n on bytes x
       → AreArms (behind_arms around x.width at.deep (load_of x.sums) arms) arms y → IsBody around (load_of y.sums) (at.deep + 1) rest z
       → IsStep around before at (step.Case on arms rest) (record { step = step.Case x.on y.arms z.steps; sums = z.sums })
   case_held n bytes on arms rest x y z h k m = record {

@@ -58,7 +58,8 @@ same_test : (m n k : ℕ) → m ≡ n → (m == k) ≡ (n == k)
 same_test m n k e = ap (λ x. x == k) e
 
 -- what a line within the limits adds
-pub within_parts : (before : Load) (steps n shown : ℕ) → is_within (added before (own_load steps n shown)) ≡ true → (n ≤ most limit.Nodes) × (shown ≤ most limit.EdgeText)
+pub within_parts : (before : Load) (steps n shown : ℕ) → is_within (added before (own_load steps n shown)) ≡ true
+    → (n ≤ most limit.Nodes) × (shown ≤ most limit.EdgeText)
 within_parts before steps n shown e =
     let f = four (nat_le (before.bits + 0) (most limit.StateBits)) (nat_le (before.steps + steps) most_steps) (nat_le (before.nodes + n) (most limit.Nodes))
     (nat_le (before.shown + shown) (most limit.EdgeText)) e in
@@ -147,7 +148,8 @@ module _ (around : Around) (before : Load) (at : Spot) where
 
   -- ---- `finish` and `stop`
 
-  pub plain_step : (allowed : Bool) → allowed ≡ may_stand around.kind at speaks → (allowed && within 0 0) ≡ ((may_stand around.kind at speaks && true) && within 0 0)
+  pub plain_step : (allowed : Bool) → allowed ≡ may_stand around.kind at speaks
+      → (allowed && within 0 0) ≡ ((may_stand around.kind at speaks && true) && within 0 0)
   plain_step allowed a = flag_is allowed (may_stand around.kind at speaks) true (within 0 0) a refl
 
   -- ---- `count`

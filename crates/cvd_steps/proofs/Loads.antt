@@ -14,7 +14,8 @@ use Rattle.spelling_laws.specs.Lists.{state_behind}
 use Rattle.cvd_text.specs.Lines.{Load, added}
 use Rattle.cvd_text.specs.Steps.{Around, Spot, spot, sets, other, StepText, ArmText, assigning, step_lines, arm_lines, lines_of_step, in_turn, item_line}
 use Rattle.cvd_step_laws.specs.LineMarks.{load_behind}
-use Rattle.cvd_step_laws.specs.StepMarks.{lines_of_arm, arm_lines_at, behind_arms, item_lines_at, behind_items, block_lines_at, if_line, case_line, show_line, ending_line, count_line, end_line, Within, within, block_step, behind_step, ArmParts}
+use Rattle.cvd_step_laws.specs.StepMarks.{lines_of_arm, arm_lines_at, behind_arms, item_lines_at, behind_items, block_lines_at, if_line, case_line, show_line}
+use Rattle.cvd_step_laws.specs.StepMarks.{ending_line, count_line, end_line, Within, within, block_step, behind_step, ArmParts}
 use Rattle.cvd_step_laws.proofs.LineMarks.{added_nothing, load_join, load_joined, rows_joined}
 use Rattle.cvd_step_laws.proofs.StepParts.{made_arm}
 

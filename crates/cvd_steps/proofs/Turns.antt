@@ -56,7 +56,8 @@ module _ (around : Around) (deep : ℕ) (start : Load) (steps : List Step) (load
         → AreSums (there around deep w (steps ++ one ∷ [])).load s
     sums_at one s h =
         subst (λ l. AreSums l s)
-        (ap (λ l. load_behind l (lines_of_step around one (spot deep n))) same ∙ ap (λ k. load_behind place.load (lines_of_step around one (spot deep k))) count_is
+        (ap (λ l. load_behind l (lines_of_step around one (spot deep n))) same
+        ∙ ap (λ k. load_behind place.load (lines_of_step around one (spot deep k))) count_is
         ∙ sym (ap (λ (v : Within). v.load) (behind_more fits Step Within (block_step around deep) (behind_step around deep) w steps (one ∷ [])))) h
 
     pub end_refused : (old mid new : Reading) (fault : ReadFault) → Takes (turn around deep w) old mid steps → begins_with_end mid.rest ≡ true

@@ -1,5 +1,6 @@
 -- The bytes of a text as words spell them.
-use Rattle.std.proofs.Common.{◌≡◌, ℕ, suc, length, drop, ◌+◌, ◌*◌, ◌<◌, ◌≤◌, ◌/◌, ◌%◌, Bool, true, false, cond, List, [], ◌∷◌, ◌++◌, Some, None, refl, sym, ◌∙◌, ap, arith}
+use Rattle.std.proofs.Common.{◌≡◌, ℕ, suc, length, drop, ◌+◌, ◌*◌, ◌<◌, ◌≤◌, ◌/◌, ◌%◌, Bool, true, false, cond, List, [], ◌∷◌, ◌++◌, Some, None, refl, sym, ◌∙◌}
+use Rattle.std.proofs.Common.{ap, arith}
 use Rattle.std.specs.Prelude.{◌&&◌, ◌==◌, nat_lt, flat_map}
 use Rattle.std.specs.List.{list_all}
 use Rattle.std.specs.Str.{bytes_eq}
@@ -103,7 +104,8 @@ pair high low more small nothing (b ∷ bs) e = by (nat_lt b 256) refl e
   where
     by : (t : Bool) → nat_lt b 256 ≡ t → high ∷ low ∷ more ≡ shown t b ++ flat_map byte_text bs → ⊥
     by true p e =
-        nothing b (lt_of b 256 p) (byte_is b (lt_of b 256 p) ∙ ap (λ n. n ∷ digit (b % 16) ∷ []) (sym (ap head e)) ∙ ap (λ n. high ∷ n ∷ []) (sym (ap head (ap tail e))))
+        nothing b (lt_of b 256 p) (byte_is b (lt_of b 256 p) ∙ ap (λ n. n ∷ digit (b % 16) ∷ []) (sym (ap head e))
+        ∙ ap (λ n. high ∷ n ∷ []) (sym (ap head (ap tail e))))
     by false p e = let far = not_lt b 256 p in let same : high ≡ b = ap head e in absurd (omega arith)
 
 pub begins_none : (rest : List ℕ) → IsFirst rest None → (rest ≡ [] → ⊥) → (bytes : List ℕ) → rest ≡ flat_map byte_text bytes → ⊥

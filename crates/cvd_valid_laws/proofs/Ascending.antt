@@ -34,8 +34,11 @@ module _ {A : Type 0} (r : A → A → Bool) where
 
   each_behind : (before xs : List A) → Behind before xs → AllByRecursion (AllBefore before) xs
   each_behind before [] h = tt
-  each_behind before (x ∷ xs) h =
-      (h.0, all_map (AllBefore (before ++ x ∷ [])) (AllBefore before) xs (λ y e. all_front (λ u. r u y) before (x ∷ []) e) (each_behind (before ++ x ∷ []) xs h.1))
+  each_behind before (x ∷ xs) h = (
+    h.0,
+    all_map (AllBefore (before ++ x ∷ [])) (AllBefore before) xs (λ y e. all_front (λ u. r u y) before (x ∷ []) e) (each_behind (before
+        ++ x ∷ []) xs h.1),
+  )
 
   pub pairs_of : (before xs : List A) → Behind before xs → Pairs xs
   pairs_of before [] h = tt

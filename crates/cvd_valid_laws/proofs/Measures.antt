@@ -14,7 +14,8 @@ use Rattle.design_tree.specs.declared.step.Target.{Target}
 use Rattle.design_tree.specs.declared.typed.Typed.{Typed}
 use Rattle.circuit_run.specs.Lists.{total}
 use Rattle.design_meaning.proofs.StepFolds.{fold-Set, fold-Later, fold-If, fold-Case, fold-Show, fold-Finish, fold-Stop, fold-Count}
-use Rattle.design_meaning.specs.Mentions.{Mention, expression, destination, shown, counted, concat_all, step_mentions, arm_mentions, item_mentions, piece_mentions, mentions_of, mention_nodes, mention_length, piece_length}
+use Rattle.design_meaning.specs.Mentions.{Mention, expression, destination, shown, counted, concat_all, step_mentions, arm_mentions, item_mentions}
+use Rattle.design_meaning.specs.Mentions.{piece_mentions, mentions_of, mention_nodes, mention_length, piece_length}
 use Rattle.design_meaning.specs.Sizes.{nodes, target_nodes, steps_in, step_size, arm_size}
 use Rattle.cvd_text.specs.Lines.{Load}
 use Rattle.cvd_text.specs.Steps.{Around}
@@ -56,7 +57,8 @@ module _ (weight : Mention → ℕ) where
       (sets : (targets : List Target) (value : Typed) → sum (map destination targets ++ expression value ∷ []) ≡ f (step_load (assigned_nodes targets value) 0))
       (says : (e : Typed) → weight (expression e) ≡ f (step_load (nodes e) 0))
       (shows : (pieces : List Piece)
-      → sum (map shown pieces ++ flat_map piece_mentions pieces) ≡ f (step_load (total (map piece_nodes pieces)) (total (map (piece_length around.design) pieces))))
+      → sum (map shown pieces ++ flat_map piece_mentions pieces)
+      ≡ f (step_load (total (map piece_nodes pieces)) (total (map (piece_length around.design) pieces))))
       (nothing : 0 ≡ f (step_load 0 0)) (counts : (counter : ℕ) → weight (counted counter) ≡ f (step_load 0 0))
       (items : (e : Typed) → weight (expression e) ≡ f (item_load (nodes e))) where
     items_weigh : (xs : List StepItem) → sum (flat_map item_mentions xs) ≡ item_sum f xs

@@ -20,7 +20,8 @@ use Rattle.design_meaning.specs.ValidProcesses.{IsOneSet, IsCount, IsOneTest}
 use Rattle.design_meaning.specs.WellFormed.{is_step, step_formed, arm_formed, all_of}
 use Rattle.design_meaning.specs.WellTyped.{is_typed}
 use Rattle.design_meaning.specs.Widths.{width_of}
-use Rattle.cvd_text.specs.Steps.{Around, Spot, spot, Sort, sets, tests, counts, other, speaks, may_stand, StepText, ArmText, step_lines, arm_lines, lines_of_step, in_turn}
+use Rattle.cvd_text.specs.Steps.{Around, Spot, spot, Sort, sets, tests, counts, other, speaks, may_stand, StepText, ArmText, step_lines, arm_lines}
+use Rattle.cvd_text.specs.Steps.{lines_of_step, in_turn}
 use Rattle.cvd_text.specs.Targets.{is_expression, takes_value}
 use Rattle.spelling_laws.proofs.Fitting.{first_true, second_true, both_true}
 use Rattle.cvd_step_laws.specs.StepMarks.{block_lines_at, end_line}
@@ -196,7 +197,8 @@ module _ (d : Design) (counters : ℕ) where
 
   pub assign_stands : (body : List Step) → IsOneSet body → FineBlock d counters Assign 1 body → holds_all (block_lines_at (around Assign) 1 body) ≡ true
   assign_stands body (targets, value, same) =
-      subst (λ l. FineBlock d counters Assign 1 l → holds_all (block_lines_at (around Assign) 1 l) ≡ true) (sym same) (λ b. by (fine_steps d counters Assign 1 (step.Set targets value ∷ []) b).0)
+      subst (λ l. FineBlock d counters Assign 1 l → holds_all (block_lines_at (around Assign) 1 l)
+      ≡ true) (sym same) (λ b. by (fine_steps d counters Assign 1 (step.Set targets value ∷ []) b).0)
     where
       by : Fine d counters Assign 1 (step.Set targets value) → holds_all (block_lines_at (around Assign) 1 (step.Set targets value ∷ [])) ≡ true
       by b =

@@ -21,11 +21,13 @@ use Rattle.design_meaning.specs.ValidProcesses.{may_tell}
 use Rattle.design_meaning.specs.WellFormed.{step_formed, arm_formed, any_of, is_item, tells, step_tells, arm_tells}
 use Rattle.design_meaning.specs.WellTyped.{is_typed, is_target}
 use Rattle.design_meaning.specs.Widths.{width_of, widths_named}
-use Rattle.cvd_text.specs.Steps.{Around, Spot, spot, Sort, sets, tests, counts, other, speaks, may_stand, StepText, ArmText, step_lines, arm_lines, lines_of_step, in_turn, item_line}
+use Rattle.cvd_text.specs.Steps.{Around, Spot, spot, Sort, sets, tests, counts, other, speaks, may_stand, StepText, ArmText, step_lines, arm_lines}
+use Rattle.cvd_text.specs.Steps.{lines_of_step, in_turn, item_line}
 use Rattle.cvd_text.specs.Targets.{is_expression, may_write, takes_value, is_piece}
 use Rattle.spelling_laws.proofs.Fitting.{first_true, second_true, both_true}
 use Rattle.cvd_step_laws.specs.StepMarks.{lines_of_arm, arm_lines_at, block_lines_at, end_line}
-use Rattle.cvd_valid_laws.proofs.Conditions.{mentions_in, arm_mentions_in, may_mention, all_join, ok, Fine, FineBlock, FineArm, steps_fine, arms_fine, targets_typed, targets_ok, pieces_typed, pieces_ok, arm_tells_in, neither}
+use Rattle.cvd_valid_laws.proofs.Conditions.{mentions_in, arm_mentions_in, may_mention, all_join, ok, Fine, FineBlock, FineArm, steps_fine, arms_fine}
+use Rattle.cvd_valid_laws.proofs.Conditions.{targets_typed, targets_ok, pieces_typed, pieces_ok, arm_tells_in, neither}
 use Rattle.cvd_valid_laws.proofs.Standing.{holds_all, holds_front, holds_back, le_of}
 
 -- what is not displayed where nothing may be

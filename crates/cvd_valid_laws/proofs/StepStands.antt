@@ -19,11 +19,13 @@ use Rattle.design_meaning.specs.ValidProcesses.{may_tell}
 use Rattle.design_meaning.specs.WellFormed.{is_step, step_formed, arm_formed, all_of, any_of, is_item, tells, step_tells, arm_tells}
 use Rattle.design_meaning.specs.WellTyped.{is_typed, is_target}
 use Rattle.design_meaning.specs.Widths.{width_of, widths_named}
-use Rattle.cvd_text.specs.Steps.{Around, Spot, spot, Sort, sets, tests, counts, other, speaks, may_stand, may_be_empty, StepText, ArmText, step_lines, arm_lines, lines_of_step, in_turn, item_line}
+use Rattle.cvd_text.specs.Steps.{Around, Spot, spot, Sort, sets, tests, counts, other, speaks, may_stand, may_be_empty, StepText, ArmText, step_lines}
+use Rattle.cvd_text.specs.Steps.{arm_lines, lines_of_step, in_turn, item_line}
 use Rattle.cvd_text.specs.Targets.{is_expression, may_write, takes_value, is_piece}
 use Rattle.spelling_laws.proofs.Fitting.{first_true, second_true, both_true}
 use Rattle.cvd_step_laws.specs.StepMarks.{lines_of_arm, arm_lines_at, block_lines_at, end_line}
-use Rattle.cvd_valid_laws.proofs.Conditions.{mentions_in, arm_mentions_in, is_arm, may_mention, all_front, all_back, ok, Quiet, Fine, FineBlock, FineArm, fine_steps, fine_arms, may_write_all, is_piece_all, arm_tells_in, first_false, second_false}
+use Rattle.cvd_valid_laws.proofs.Conditions.{mentions_in, arm_mentions_in, is_arm, may_mention, all_front, all_back, ok, Quiet, Fine, FineBlock, FineArm}
+use Rattle.cvd_valid_laws.proofs.Conditions.{fine_steps, fine_arms, may_write_all, is_piece_all, arm_tells_in, first_false, second_false}
 use Rattle.cvd_valid_laws.proofs.Standing.{holds_all, holds_join, of_le}
 
 -- one of several
@@ -144,7 +146,8 @@ module _ (d : Design) (counters : ℕ) (k : ProcessKind) where
         let front = first_true (is_typed d test && wide && l) r formed in
         let head = first_true (is_typed d test && wide) l front in
         let mentions = sym (ap (ok d counters k) (fold-If (List Mention) (List Mention) step_mentions arm_mentions test left right)) ∙ b.mentions in
-        let inner = second_true (nat_le (depth test) 2000) (ok d counters k (concat_all (map mentions_in left) ++ concat_all (map mentions_in right))) mentions in
+        let inner = second_true (nat_le (depth test) 2000) (ok d counters k (concat_all (map mentions_in left)
+        ++ concat_all (map mentions_in right))) mentions in
         let z = fold-If ℕ ℕ step_depth arm_depth test left right in
         ap (at_spot at) (fold-If StepText ArmText (step_lines A) (arm_lines A) test left right)
         ∙ both_true (may_stand k at tests && (is_expression d test && wide)) (holds_all (first ++ second))

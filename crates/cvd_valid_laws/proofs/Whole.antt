@@ -15,7 +15,8 @@ use Rattle.design_meaning.specs.Valid.{IsValid, state_bits, all_nodes, edge_leng
 use Rattle.design_meaning.specs.ValidProcesses.{IsProcess}
 use Rattle.design_meaning.specs.ValidVariables.{IsVariable}
 use Rattle.cvd_text.specs.Lines.{Load, Line, no_load, added}
-use Rattle.cvd_text.specs.Sections.{var_line, var_lines, input_line, input_lines, output_line, output_lines, process_lines, processes_lines, toggle_line, toggle_lines, point_line, point_lines, lines_behind}
+use Rattle.cvd_text.specs.Sections.{var_line, var_lines, input_line, input_lines, output_line, output_lines, process_lines, processes_lines, toggle_line}
+use Rattle.cvd_text.specs.Sections.{toggle_lines, point_line, point_lines, lines_behind}
 use Rattle.cvd_text.specs.Spelling.{last_line, most_counters, design_lines, AllStand}
 use Rattle.spelling_laws.proofs.Fitting.{first_true, second_true, both_true}
 use Rattle.cvd_step_laws.specs.LineMarks.{load_behind}
@@ -24,7 +25,8 @@ use Rattle.cvd_valid_laws.proofs.Entries.{outputs_told, outputs_stand, toggles_t
 use Rattle.cvd_valid_laws.proofs.Inputs.{heads, inputs_told, inputs_stand, head_stands}
 use Rattle.cvd_valid_laws.proofs.Measures.{bits_of_process, steps_of_process, nodes_of_process, shown_of_process}
 use Rattle.cvd_valid_laws.proofs.Processes.{FineProcess, process_told, process_stands}
-use Rattle.cvd_valid_laws.proofs.Standing.{holds_all, holds_join, holds_front, holds_back, few_of, sum_of, behind_sum, sum_join, total_join, stands_all, within_all, all_of_them, le_of, of_le}
+use Rattle.cvd_valid_laws.proofs.Standing.{holds_all, holds_join, holds_front, holds_back, few_of, sum_of, behind_sum, sum_join, total_join, stands_all}
+use Rattle.cvd_valid_laws.proofs.Standing.{within_all, all_of_them, le_of, of_le}
 use Rattle.cvd_valid_laws.proofs.Things.{vars_told, vars_stand}
 
 -- ---- processes, one behind the other
@@ -164,7 +166,8 @@ module _ (x : Instrumented) where
   valid_where_stands e =
       let few = few_of (load_behind no_load (design_lines x)) (within_all no_load (design_lines x) refl e) in
       let vs = var_lines d.vars ++ inputs in
-      let h : (nat_le n most_counters && holds_all vs) ≡ true = second_true true (nat_le n most_counters && holds_all vs) (stands_all no_load (design_lines x) e) in
+      let h : (nat_le n most_counters && holds_all vs)
+      ≡ true = second_true true (nat_le n most_counters && holds_all vs) (stands_all no_load (design_lines x) e) in
       let h1 = second_true (nat_le n most_counters) (holds_all vs) h in
       let v = second_true true (holds_all (map var_line d.vars)) (holds_front (var_lines d.vars) inputs h1) in
       let h2 = holds_back (var_lines d.vars) inputs h1 in

@@ -12,7 +12,8 @@ use Rattle.cvd_text.specs.Tokens.{word, number, hex, counters, words_of, counter
 use Rattle.cvd_text.specs.Lines.{Line, line_text, lines_text}
 use Rattle.cov_types.specs.Limits.{most}
 use Rattle.cov_types.specs.declared.limit.LimitName.TheVariants as limit
-use Rattle.cvd_text.specs.Sections.{heading, input_numbers, lines_behind, var_line, var_lines, kind_word, input_line, input_lines, output_line, output_lines, process_word, process_lines, processes_lines, toggle_line, toggle_lines, point_line, point_lines}
+use Rattle.cvd_text.specs.Sections.{heading, input_numbers, lines_behind, var_line, var_lines, kind_word, input_line, input_lines, output_line, output_lines}
+use Rattle.cvd_text.specs.Sections.{process_word, process_lines, processes_lines, toggle_line, toggle_lines, point_line, point_lines}
 use Rattle.cvd_text.specs.Spelling.{spelling, Cvd, last_line, most_counters}
 use Rattle.design_meaning.specs.Valid.{IsValid}
 use Rattle.cvd_write.specs.declared.fault.WriteFault.{WriteFault}

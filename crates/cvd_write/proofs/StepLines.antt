@@ -15,7 +15,8 @@ use Rattle.design_meaning.specs.Widths.{width_of}
 use Rattle.cvd_text.specs.Tokens.{Token, word, number, hex, token_text}
 use Rattle.cvd_text.specs.Lines.{Line, line, line_text, lines_text}
 use Rattle.cvd_text.specs.Expressions.{tokens_of}
-use Rattle.cvd_text.specs.Steps.{Around, Spot, spot, StepText, ArmText, sets, tests, counts, other, speaks, step_line, assigning, step_lines, arm_lines, lines_of_step, in_turn, block_lines, item_line, may_be_empty}
+use Rattle.cvd_text.specs.Steps.{Around, Spot, spot, StepText, ArmText, sets, tests, counts, other, speaks, step_line, assigning, step_lines, arm_lines}
+use Rattle.cvd_text.specs.Steps.{lines_of_step, in_turn, block_lines, item_line, may_be_empty}
 use Rattle.cvd_text.specs.Targets.{is_expression, piece_tokens, is_piece, piece_nodes}
 use Rattle.circuit_run.specs.Lists.{total}
 use Rattle.design_meaning.specs.Sizes.{nodes}

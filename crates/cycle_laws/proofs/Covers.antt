@@ -31,7 +31,8 @@ counts : (v : ℕ) (xs : List Step) → All IsCount xs → list_any (sets_in v) 
 counts v [] h = refl
 counts v (x ∷ xs) h =
     let one : IsCount x = h 0 x (omega arith) in
-    let this : sets_in v (paths_of_step x) ≡ false = ap (λ y. sets_in v (paths_of_step y)) one.1 ∙ ap (sets_in v) (steps.fold-Count (List Path) ArmPaths step_paths arm_paths one.0) in
+    let this : sets_in v (paths_of_step x) ≡ false = ap (λ y. sets_in v (paths_of_step y)) one.1
+    ∙ ap (sets_in v) (steps.fold-Count (List Path) ArmPaths step_paths arm_paths one.0) in
     rw (this) (counts v xs (λ k d lt. h (suc k) d (omega (arith, lt))))
 
 a_test : (v : ℕ) (e : Typed) (left right : List Step) → All IsCount left → All IsCount right → sets_in v (paths_of_step (step.If e left right)) ≡ false

@@ -56,7 +56,8 @@ word_named s at w h = go (is_constant at) refl
     go true c = rw (same_position at c [] s) h
     go false c = refl
 
-place_named : (s : State) (at : Index) (w i : ℕ) → is_place_in (Some (position_in s at, w)) i ≡ true → is_place_in (places_from (constant_position at) w) i ≡ true
+place_named : (s : State) (at : Index) (w i : ℕ) → is_place_in (Some (position_in s at, w)) i ≡ true
+    → is_place_in (places_from (constant_position at) w) i ≡ true
 place_named s at w i h = go (is_constant at) refl
   where
     go : (c : Bool) → is_constant at ≡ c → is_place_in (places_from (if c then Some (position_in [] at) else None) w) i ≡ true
@@ -88,7 +89,8 @@ defers_bit b o = list_any (λ part. has_bit part b) o.updates
 abbrev Quiet : Step → Type 0
 Quiet x = (s : State) (b : Bit) → drives_in b (paths_of_step x) ≡ false → defers_bit b (does x s) ≡ false
 
-quiet_list : (xs : List Step) → AllByRecursion Quiet xs → (s : State) (b : Bit) → list_any (drives_in b) (map paths_of_step xs) ≡ false → defers_bit b (all_do xs s) ≡ false
+quiet_list : (xs : List Step) → AllByRecursion Quiet xs → (s : State) (b : Bit) → list_any (drives_in b) (map paths_of_step xs) ≡ false
+    → defers_bit b (all_do xs s) ≡ false
 quiet_list [] f s b h = refl
 quiet_list (x ∷ xs) f s b h =
     any_append (λ part. has_bit part b) (does x s).updates (all_do xs (does x s).state).updates
@@ -99,12 +101,14 @@ quiet_block : (xs : List Step) → AllByRecursion Quiet xs → (s : State) (b : 
 quiet_block xs f s b h = quiet_list xs f s b (sym (any_choice (event_drives b) (map paths_of_step xs) (all_have xs)) ∙ h)
 
 -- the blocks behind reads
-behind_drives : (x : Step) (spans : List Span) (ps : List Path) (b : Bit) → paths_of_step x ≡ behind spans ps → drives_in b (paths_of_step x) ≡ false → drives_in b ps ≡ false
+behind_drives : (x : Step) (spans : List Span) (ps : List Path) (b : Bit) → paths_of_step x ≡ behind spans ps → drives_in b (paths_of_step x) ≡ false
+    → drives_in b ps ≡ false
 behind_drives x spans ps b e h = sym (any_map (list_any (event_drives b)) (λ path. reads spans ∷ path) ps) ∙ sym (ap (drives_in b) e) ∙ h
 
 quiet_later : (ts : List Target) (v : Typed) → Quiet (step.Later ts v)
 quiet_later ts v s b h =
-    let e : drives_in b (paths_of_step (step.Later ts v)) ≡ drives_in b ((reads (assign_reads ts v) ∷ map defers ts) ∷ []) = ap (drives_in b) (steps.fold-Later (List Path) ArmPaths step_paths arm_paths ts v) in
+    let e : drives_in b (paths_of_step (step.Later ts v))
+    ≡ drives_in b ((reads (assign_reads ts v) ∷ map defers ts) ∷ []) = ap (drives_in b) (steps.fold-Later (List Path) ArmPaths step_paths arm_paths ts v) in
     ap (defers_bit b) (equation.does-Later ts v s)
     ∙ unnamed s ts (value_in s v).number b
     (sym (any_map (event_drives b) defers ts) ∙ neither_left (list_any (event_drives b) (map defers ts)) false (sym e ∙ h))
@@ -114,7 +118,8 @@ quiet_if e left right l r s b h = ap (defers_bit b) (equation.does-If e left rig
   where
     both : (drives_in b (paths left) || drives_in b (paths right)) ≡ false
     both = sym (any_append (list_any (event_drives b)) (paths left) (paths right))
-        ∙ behind_drives (step.If e left right) (reads_of e) (paths left ++ paths right) b (steps.fold-If (List Path) ArmPaths step_paths arm_paths e left right) h
+        ∙ behind_drives (step.If e left right) (reads_of e) (paths left
+        ++ paths right) b (steps.fold-If (List Path) ArmPaths step_paths arm_paths e left right) h
 
     go : (c : Bool) → defers_bit b (in_turn (if c then map does right else map does left) s) ≡ false
     go true = quiet_block right r s b (neither_right (drives_in b (paths left)) (drives_in b (paths right)) both)
@@ -124,15 +129,22 @@ quiet_arms : (n : ℕ) (s : State) (arms : List StepArm) (rest : List Step) → 
     → drives_in b (bodies arms ++ paths rest) ≡ false → defers_bit b (all_do (chosen_steps s n arms rest) s) ≡ false
 quiet_arms n s [] rest a r b h = quiet_block rest r s b h
 quiet_arms n s (arm ∷ arms) rest a r b h = go (list_any (is_match s n) arm.items) (quiet_arms n s arms rest a.1 r b
-    (any_append (list_any (event_drives b)) (bodies arms) (paths rest) ∙ rw (neither_right (drives_in b (paths arm.body)) (drives_in b (bodies arms)) first, neither_right (drives_in b (paths arm.body ++ bodies arms)) (drives_in b (paths rest)) whole) refl))
+    (any_append (list_any (event_drives b)) (bodies arms) (paths rest)
+    ∙ rw (
+      neither_right (drives_in b (paths arm.body)) (drives_in b (bodies arms)) first,
+      neither_right (drives_in b (paths arm.body
+          ++ bodies arms)) (drives_in b (paths rest)) whole,
+    ) refl))
   where
     whole : (drives_in b (paths arm.body ++ bodies arms) || drives_in b (paths rest)) ≡ false
     whole = sym (any_append (list_any (event_drives b)) (paths arm.body ++ bodies arms) (paths rest)) ∙ h
 
     first : (drives_in b (paths arm.body) || drives_in b (bodies arms)) ≡ false
-    first = sym (any_append (list_any (event_drives b)) (paths arm.body) (bodies arms)) ∙ neither_left (drives_in b (paths arm.body ++ bodies arms)) (drives_in b (paths rest)) whole
+    first = sym (any_append (list_any (event_drives b)) (paths arm.body) (bodies arms))
+        ∙ neither_left (drives_in b (paths arm.body ++ bodies arms)) (drives_in b (paths rest)) whole
 
-    go : (c : Bool) → defers_bit b (all_do (chosen_steps s n arms rest) s) ≡ false → defers_bit b (all_do (if c then arm.body else chosen_steps s n arms rest) s) ≡ false
+    go : (c : Bool) → defers_bit b (all_do (chosen_steps s n arms rest) s) ≡ false
+        → defers_bit b (all_do (if c then arm.body else chosen_steps s n arms rest) s) ≡ false
     go true k = quiet_block arm.body a.0 s b (neither_left (drives_in b (paths arm.body)) (drives_in b (bodies arms)) first)
     go false k = k
 
@@ -142,7 +154,8 @@ quiet = step_induction Quiet
     quiet_later
     quiet_if
     (λ on arms rest a r s b h. ap (defers_bit b) (case_does on arms rest s)
-    ∙ quiet_arms (value_in s on).number s arms rest a r b (behind_drives (step.Case on arms rest) (reads_of on ++ arm_spans arms) (bodies arms ++ paths rest) b (case_paths on arms rest) h))
+    ∙ quiet_arms (value_in s on).number s arms rest a r b (behind_drives (step.Case on arms rest) (reads_of on ++ arm_spans arms) (bodies arms
+    ++ paths rest) b (case_paths on arms rest) h))
     (λ pieces s b h. ap (defers_bit b) (equation.does-Show pieces s))
     (λ s b h. ap (defers_bit b) (equation.does-Finish s))
     (λ s b h. ap (defers_bit b) (equation.does-Stop s))

@@ -88,7 +88,8 @@ module _ (d : Design) (valid : IsValidDesign d) (flows : Flows d) where
               subst (λ r. bit (after d p t) b ≡ bit (after d r s) b) e (own b hb (subst (λ r. IsTrue (sets_var d r b.var)) (sym e) sets)))
         ];
         kept = λ b hb none. leaves_unset d p t b ht hb (none p (omega arith) at) ∙ blocked.kept b hb (λ q lt kq. none q (omega (arith, lt)) kq);
-        untouched = λ b hb none. leaves_others d p t b valid ht hb (none p (omega arith) at) ∙ blocked.untouched b hb (λ q lt kq. none q (omega (arith, lt)) kq);
+        untouched = λ b hb none. leaves_others d p t b valid ht hb (none p (omega arith) at)
+            ∙ blocked.untouched b hb (λ q lt kq. none q (omega (arith, lt)) kq);
       }
 
 pub one_more : EdgesChain

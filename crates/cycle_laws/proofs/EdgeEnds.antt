@@ -1,5 +1,6 @@
 -- With all processes run, the last blocking values are there.
-use Rattle.std.proofs.Common.{◌≡◌, ◌≢◌, ◌∙◌, sym, ap, subst, refl, ℕ, zero, suc, ◌<◌, ◌⊎◌, inl, inr, Bool, true, false, cond, ◌&&◌, List, [], ◌∷◌, map, filter, length, arith}
+use Rattle.std.proofs.Common.{◌≡◌, ◌≢◌, ◌∙◌, sym, ap, subst, refl, ℕ, zero, suc, ◌<◌, ◌⊎◌, inl, inr, Bool, true, false, cond, ◌&&◌, List, [], ◌∷◌, map, filter}
+use Rattle.std.proofs.Common.{length, arith}
 use Rattle.std.proofs.lemmas.Bool.{cases_Bool, cases_lt}
 use Rattle.std.proofs.lemmas.List.{get_or_past}
 use Rattle.std.specs.Prelude.{IsTrue, All, slice_index_or}
@@ -79,7 +80,8 @@ chains_end d s t valid hs ht h = record { is_state = ht; changed = changed; kept
         (to_map P (λ p. (run_of p s).state) (processes_that runs_at_edge d)
         (to_filter (λ p. runs_at_edge p.kind) (λ p. P (run_of p s).state) no_process d.processes each)))
 
-    from_each : (P : State → Type 0) → All P (states_after runs_at_edge (circuit_of d) s) → (p : ℕ) → p < length d.processes → IsTrue (runs_at_edge (kind_of d p)) → P (after d p s)
+    from_each : (P : State → Type 0) → All P (states_after runs_at_edge (circuit_of d) s) → (p : ℕ) → p < length d.processes
+        → IsTrue (runs_at_edge (kind_of d p)) → P (after d p s)
     from_each P all = from_those (λ p. runs_at_edge p.kind) (λ p. P (run_of p s).state) no_process d.processes
         (of_map P (λ p. (run_of p s).state) (processes_that runs_at_edge d)
         (by_recursion P (map (λ p. (run_of p s).state) (processes_that runs_at_edge d)) (subst (All P) (states_are d runs_at_edge s) all)))

@@ -56,7 +56,8 @@ none_of x y z e = rw e refl
 not_in : (p : Part) (b : Bit) (v : ℕ) → p.var ≡ v → (v == b.var) ≡ false → has_bit p b ≡ false
 not_in p b v e h = none_of (p.var == b.var) _ _ (ap (λ u. u == b.var) e ∙ h)
 
-unnamed : (s : State) (ts : List Target) (n : ℕ) (b : Bit) → list_any (λ t. var_named t == b.var) ts ≡ false → list_any (λ p. has_bit p b) (parts_at s ts n) ≡ false
+unnamed : (s : State) (ts : List Target) (n : ℕ) (b : Bit) → list_any (λ t. var_named t == b.var) ts ≡ false
+    → list_any (λ p. has_bit p b) (parts_at s ts n) ≡ false
 unnamed s [] n b h = refl
 unnamed s (t ∷ ts) n b h =
     let m : ℕ = value.select (target_width s t) n (pos (target_widths s ts)) in
@@ -64,7 +65,8 @@ unnamed s (t ∷ ts) n b h =
     rw (one, unnamed s ts n b (neither_right (var_named t == b.var) (list_any (λ t. var_named t == b.var) ts) h)) refl
 
 module _ (d : Design) where
-  pub parts_leave : (ps : List Part) (s : State) (b : Bit) → IsStateOf d s → IsBitOf d b → list_any (λ p. has_bit p b) ps ≡ false → bit (all_written s ps) b ≡ bit s b
+  pub parts_leave : (ps : List Part) (s : State) (b : Bit) → IsStateOf d s → IsBitOf d b → list_any (λ p. has_bit p b) ps ≡ false
+      → bit (all_written s ps) b ≡ bit s b
   parts_leave [] s b hs hb h = refl
   parts_leave (p ∷ ps) s b hs hb h =
       parts_leave ps (written s p) b (written_keeps d s p hs) hb (neither_right (has_bit p b) (list_any (λ p. has_bit p b) ps) h)
@@ -86,16 +88,19 @@ module _ (d : Design) where
       frame_list xs f.1 (does x s).state (step_keeps x s hs) b hb (neither_right (sets_in b (paths_of_step x)) (list_any (sets_in b) (map paths_of_step xs)) h)
       ∙ f.0 s hs b hb (neither_left (sets_in b (paths_of_step x)) (list_any (sets_in b) (map paths_of_step xs)) h)
 
-  frame_block : (xs : List Step) → AllByRecursion Frame xs → (s : State) → IsStateOf d s → (b : Bit) → IsBitOf d b → sets_in b (paths xs) ≡ false → bit (all_do xs s).state b ≡ bit s b
+  frame_block : (xs : List Step) → AllByRecursion Frame xs → (s : State) → IsStateOf d s → (b : Bit) → IsBitOf d b → sets_in b (paths xs) ≡ false
+      → bit (all_do xs s).state b ≡ bit s b
   frame_block xs f s hs b hb h = frame_list xs f s hs b hb (sym (any_choice (event_sets b.var) (map paths_of_step xs) (all_have xs)) ∙ h)
 
   -- the blocks behind reads
-  behind_sets : (x : Step) (spans : List Span) (ps : List Path) (b : Bit) → paths_of_step x ≡ behind spans ps → sets_in b (paths_of_step x) ≡ false → sets_in b ps ≡ false
+  behind_sets : (x : Step) (spans : List Span) (ps : List Path) (b : Bit) → paths_of_step x ≡ behind spans ps → sets_in b (paths_of_step x) ≡ false
+      → sets_in b ps ≡ false
   behind_sets x spans ps b e h = sym (any_map (list_any (event_sets b.var)) (λ path. reads spans ∷ path) ps) ∙ sym (ap (sets_in b) e) ∙ h
 
   frame_set : (ts : List Target) (v : Typed) → Frame (step.Set ts v)
   frame_set ts v s hs b hb h =
-      let e : sets_in b (paths_of_step (step.Set ts v)) ≡ sets_in b ((reads (assign_reads ts v) ∷ map sets ts) ∷ []) = ap (sets_in b) (steps.fold-Set (List Path) ArmPaths step_paths arm_paths ts v) in
+      let e : sets_in b (paths_of_step (step.Set ts v))
+      ≡ sets_in b ((reads (assign_reads ts v) ∷ map sets ts) ∷ []) = ap (sets_in b) (steps.fold-Set (List Path) ArmPaths step_paths arm_paths ts v) in
       ap (λ o. bit o.state b) (equation.does-Set ts v s)
       ∙ parts_leave (parts_at s ts (value_in s v).number) s b hs hb (unnamed s ts (value_in s v).number b
       (sym (any_map (event_sets b.var) sets ts) ∙ neither_left (list_any (event_sets b.var) (map sets ts)) false (sym e ∙ h)))
@@ -105,25 +110,34 @@ module _ (d : Design) where
     where
       both : (sets_in b (paths left) || sets_in b (paths right)) ≡ false
       both = sym (any_append (list_any (event_sets b.var)) (paths left) (paths right))
-          ∙ behind_sets (step.If e left right) (reads_of e) (paths left ++ paths right) b (steps.fold-If (List Path) ArmPaths step_paths arm_paths e left right) h
+          ∙ behind_sets (step.If e left right) (reads_of e) (paths left
+          ++ paths right) b (steps.fold-If (List Path) ArmPaths step_paths arm_paths e left right) h
 
       go : (c : Bool) → bit (in_turn (if c then map does right else map does left) s).state b ≡ bit s b
       go true = frame_block right r s hs b hb (neither_right (sets_in b (paths left)) (sets_in b (paths right)) both)
       go false = frame_block left l s hs b hb (neither_left (sets_in b (paths left)) (sets_in b (paths right)) both)
 
-  frame_arms : (n : ℕ) (s : State) (arms : List StepArm) (rest : List Step) → AllByRecursion (ArmHas Frame) arms → AllByRecursion Frame rest → IsStateOf d s → (b : Bit) → IsBitOf d b
+  frame_arms : (n : ℕ) (s : State) (arms : List StepArm) (rest : List Step) → AllByRecursion (ArmHas Frame) arms → AllByRecursion Frame rest → IsStateOf d s
+      → (b : Bit) → IsBitOf d b
       → sets_in b (bodies arms ++ paths rest) ≡ false → bit (all_do (chosen_steps s n arms rest) s).state b ≡ bit s b
   frame_arms n s [] rest a r hs b hb h = frame_block rest r s hs b hb h
   frame_arms n s (arm ∷ arms) rest a r hs b hb h = go (list_any (is_match s n) arm.items) (frame_arms n s arms rest a.1 r hs b hb
-      (any_append (list_any (event_sets b.var)) (bodies arms) (paths rest) ∙ rw (neither_right (sets_in b (paths arm.body)) (sets_in b (bodies arms)) first, neither_right (sets_in b (paths arm.body ++ bodies arms)) (sets_in b (paths rest)) whole) refl))
+      (any_append (list_any (event_sets b.var)) (bodies arms) (paths rest)
+      ∙ rw (
+        neither_right (sets_in b (paths arm.body)) (sets_in b (bodies arms)) first,
+        neither_right (sets_in b (paths arm.body
+            ++ bodies arms)) (sets_in b (paths rest)) whole,
+      ) refl))
     where
       whole : (sets_in b (paths arm.body ++ bodies arms) || sets_in b (paths rest)) ≡ false
       whole = sym (any_append (list_any (event_sets b.var)) (paths arm.body ++ bodies arms) (paths rest)) ∙ h
 
       first : (sets_in b (paths arm.body) || sets_in b (bodies arms)) ≡ false
-      first = sym (any_append (list_any (event_sets b.var)) (paths arm.body) (bodies arms)) ∙ neither_left (sets_in b (paths arm.body ++ bodies arms)) (sets_in b (paths rest)) whole
+      first = sym (any_append (list_any (event_sets b.var)) (paths arm.body) (bodies arms))
+          ∙ neither_left (sets_in b (paths arm.body ++ bodies arms)) (sets_in b (paths rest)) whole
 
-      go : (c : Bool) → bit (all_do (chosen_steps s n arms rest) s).state b ≡ bit s b → bit (all_do (if c then arm.body else chosen_steps s n arms rest) s).state b ≡ bit s b
+      go : (c : Bool) → bit (all_do (chosen_steps s n arms rest) s).state b ≡ bit s b
+          → bit (all_do (if c then arm.body else chosen_steps s n arms rest) s).state b ≡ bit s b
       go true k = frame_block arm.body a.0 s hs b hb (neither_left (sets_in b (paths arm.body)) (sets_in b (bodies arms)) first)
       go false k = k
 
@@ -132,7 +146,8 @@ module _ (d : Design) where
       (λ ts v s hs b hb h. ap (λ o. bit o.state b) (equation.does-Later ts v s))
       frame_if
       (λ on arms rest a r s hs b hb h. ap (λ o. bit o.state b) (case_does on arms rest s)
-      ∙ frame_arms (value_in s on).number s arms rest a r hs b hb (behind_sets (step.Case on arms rest) (reads_of on ++ arm_spans arms) (bodies arms ++ paths rest) b (case_paths on arms rest) h))
+      ∙ frame_arms (value_in s on).number s arms rest a r hs b hb (behind_sets (step.Case on arms rest) (reads_of on ++ arm_spans arms) (bodies arms
+      ++ paths rest) b (case_paths on arms rest) h))
       (λ pieces s hs b hb h. ap (λ o. bit o.state b) (equation.does-Show pieces s))
       (λ s hs b hb h. ap (λ o. bit o.state b) (equation.does-Finish s))
       (λ s hs b hb h. ap (λ o. bit o.state b) (equation.does-Stop s))

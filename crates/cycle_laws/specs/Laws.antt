@@ -33,7 +33,8 @@ IdleStays = (d : Design) (p : ℕ) (s t : State) → IsValidDesign d → Flows d
 
 -- A process in an order does the same beside the state where it stands in the order as in the settled state.
 abbrev pub RestLeavesReads : Type 0
-RestLeavesReads = (d : Design) (order front rest : List ℕ) (p : ℕ) (t : State) → IsValidDesign d → Flows d → IsOrder d order → order ≡ front ++ p ∷ rest → IsStateOf d t
+RestLeavesReads = (d : Design) (order front rest : List ℕ) (p : ℕ) (t : State) → IsValidDesign d → Flows d → IsOrder d order → order ≡ front ++ p ∷ rest
+    → IsStateOf d t
     → SameEffects (run_of (process_of d p) t) (run_of (process_of d p) (after_all d (p ∷ rest) t))
 
 -- In a design that flows one more process may be run where those before it have been run at the edge: it does the same

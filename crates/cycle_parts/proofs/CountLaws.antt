@@ -1,5 +1,6 @@
 -- Counters that are raised one after the other.
-use Rattle.std.proofs.Common.{◌≡◌, ◌≢◌, ◌∙◌, sym, ap, subst, refl, ℕ, zero, suc, ◌+◌, ◌<◌, ◌≤◌, ◌^◌, ◌==◌, inl, inr, Bool, true, false, cond, not, List, [], ◌∷◌, ◌++◌, filter, length, map, take, arith}
+use Rattle.std.proofs.Common.{◌≡◌, ◌≢◌, ◌∙◌, sym, ap, subst, refl, ℕ, zero, suc, ◌+◌, ◌<◌, ◌≤◌, ◌^◌, ◌==◌, inl, inr, Bool, true, false, cond, not, List, []}
+use Rattle.std.proofs.Common.{◌∷◌, ◌++◌, filter, length, map, take, arith}
 use Rattle.std.specs.Prelude.{Some, slice_index, slice_index_or, slice_set}
 use Rattle.std.proofs.lemmas.Bool.{cases_eq, cases_Bool, eq-eqb, ne_eqb, cases_lt as cases_lt_or}
 use Rattle.std.proofs.lemmas.List.{get_or-set_same, get_or-set_other, length-set, take_more, length-take-le, map-append}
@@ -35,7 +36,8 @@ counted_one a c here = record {
   each = λ k lt. elim (cases_eq c k) [
     | inl e ↦ subst (λ k. slice_index (slice_set a c (slice_index a c + 1)) k ≡ slice_index a k + how_many k (c ∷ [])) e
         (get_or-set_same a c (slice_index a c + 1) 0 here ∙ ap (λ n. slice_index a c + n) (sym (how_many_one c c ∙ ap one_if (eq-eqb c c refl))))
-    | inr ne ↦ get_or-set_other a c k (slice_index a c + 1) 0 (λ e. ne (sym e)) ∙ plus_none (slice_index a k) (how_many k (c ∷ [])) (how_many_one k c ∙ ap one_if (ne_eqb c k ne))
+    | inr ne ↦ get_or-set_other a c k (slice_index a c + 1) 0 (λ e. ne (sym e)) ∙ plus_none (slice_index a k) (how_many k (c ∷ [])) (how_many_one k c
+        ∙ ap one_if (ne_eqb c k ne))
   ];
 }
   where
@@ -69,10 +71,13 @@ counted_least a r b k h = elim (cases_lt_or k (length a)) [
 ]
 
 -- so many of a list have been raised, with one more
-pub counted_next : (a b c : List ℕ) (rs : List ℕ) (i x : ℕ) → i < length rs → x ≡ slice_index_or rs i x → HasCounted a (take i rs) b → HasCounted b (x ∷ []) c → HasCounted a (take (i + 1) rs) c
-counted_next a b c rs i x lt e h j = subst (λ r. HasCounted a r c) (sym (take_more rs i x lt ∙ ap (λ y. take i rs ++ y ∷ []) (sym e))) (counted_both a b c (take i rs) (x ∷ []) h j)
+pub counted_next : (a b c : List ℕ) (rs : List ℕ) (i x : ℕ) → i < length rs → x ≡ slice_index_or rs i x → HasCounted a (take i rs) b
+    → HasCounted b (x ∷ []) c → HasCounted a (take (i + 1) rs) c
+counted_next a b c rs i x lt e h j = subst (λ r. HasCounted a r c) (sym (take_more rs i x lt
+    ∙ ap (λ y. take i rs ++ y ∷ []) (sym e))) (counted_both a b c (take i rs) (x ∷ []) h j)
 
-pub room_for_one : (a b rs : List ℕ) (i k : ℕ) → ((k : ℕ) → slice_index a k + length rs < 2 ^ 64) → i < length rs → HasCounted a (take i rs) b → slice_index b k + 1 < 2 ^ 64
+pub room_for_one : (a b rs : List ℕ) (i k : ℕ) → ((k : ℕ) → slice_index a k + length rs < 2 ^ 64) → i < length rs → HasCounted a (take i rs) b
+    → slice_index b k + 1 < 2 ^ 64
 room_for_one a b rs i k fit lt h = omega (arith, fit k, lt, counted_least a (take i rs) b k h, length-take-le i rs (omega (arith, lt)))
 
 -- ---- toggles
@@ -80,7 +85,8 @@ room_for_one a b rs i k fit lt h = omega (arith, fit k, lt, counted_least a (tak
 abbrev pub no_entry : ToggleEntry
 no_entry = record { var = 0; word = 0; bit = 0; counter = 0 }
 
-toggled_more : (s t : State) (front : List ToggleEntry) (x : ToggleEntry) → toggled (Some s) t (front ++ x ∷ []) ≡ toggled (Some s) t front ++ cond (is_toggled s t x) (x.counter ∷ []) []
+toggled_more : (s t : State) (front : List ToggleEntry) (x : ToggleEntry)
+    → toggled (Some s) t (front ++ x ∷ []) ≡ toggled (Some s) t front ++ cond (is_toggled s t x) (x.counter ∷ []) []
 toggled_more s t front x =
     ap (map (λ e. e.counter)) (filter-append (is_toggled s t) front (x ∷ []))
     ∙ map-append (λ e. e.counter) (filter (is_toggled s t) front) (filter (is_toggled s t) (x ∷ []))
@@ -99,17 +105,20 @@ module _ (s t : State) (es : List ToggleEntry) (i : ℕ) (x : ToggleEntry) (lt :
   next b eb = ap (toggled (Some s) t) (take_more es i x lt ∙ ap (λ y. take i es ++ y ∷ []) (sym e)) ∙ toggled_more s t (take i es) x
       ∙ ap (λ c. toggled (Some s) t (take i es) ++ cond c (x.counter ∷ []) []) eb
 
-  pub toggled_here : (a b c : List ℕ) → is_toggled s t x ≡ true → HasCounted a (toggled (Some s) t (take i es)) b → HasCounted b (x.counter ∷ []) c → HasCounted a (toggled (Some s) t (take (i + 1) es)) c
+  pub toggled_here : (a b c : List ℕ) → is_toggled s t x ≡ true → HasCounted a (toggled (Some s) t (take i es)) b → HasCounted b (x.counter ∷ []) c
+      → HasCounted a (toggled (Some s) t (take (i + 1) es)) c
   toggled_here a b c h ha hb = subst (λ r. HasCounted a r c) (sym (next true h)) (counted_both a b c (toggled (Some s) t (take i es)) (x.counter ∷ []) ha hb)
 
-  pub toggled_not_here : (a b : List ℕ) → is_toggled s t x ≡ false → HasCounted a (toggled (Some s) t (take i es)) b → HasCounted a (toggled (Some s) t (take (i + 1) es)) b
+  pub toggled_not_here : (a b : List ℕ) → is_toggled s t x ≡ false → HasCounted a (toggled (Some s) t (take i es)) b
+      → HasCounted a (toggled (Some s) t (take (i + 1) es)) b
   toggled_not_here a b h ha = subst (λ r. HasCounted a r b) (sym (next false h ∙ no_more (toggled (Some s) t (take i es)))) ha
 
 length_toggled : (s t : State) (es : List ToggleEntry) → length (toggled (Some s) t es) ≤ length es
 length_toggled s t [] = omega arith
 length_toggled s t (x ∷ es) = go (is_toggled s t x) (length_toggled s t es)
   where
-    go : (b : Bool) → length (toggled (Some s) t es) ≤ length es → length (map (λ e. e.counter) (cond b (x ∷ filter (is_toggled s t) es) (filter (is_toggled s t) es))) ≤ suc (length es)
+    go : (b : Bool) → length (toggled (Some s) t es) ≤ length es
+        → length (map (λ e. e.counter) (cond b (x ∷ filter (is_toggled s t) es) (filter (is_toggled s t) es))) ≤ suc (length es)
     go true h = omega (arith, h)
     go false h = omega (arith, h)
 

@@ -15,7 +15,8 @@ joined_is s v [] = sym (no_more (output_text s v))
     no_more (x ∷ xs) = ap (λ l. x ∷ l) (no_more xs)
 joined_is s v (u ∷ vs) = ap (λ l. output_text s v ++ (32 ∷ l)) (joined_is s u vs)
 
-pub joined_of : (s : State) (outputs : List ℕ) → 0 < length outputs → joined_texts s outputs ≡ output_text s (slice_index outputs 0) ++ flat_map (λ u. 32 ∷ output_text s u) (drop 1 outputs)
+pub joined_of : (s : State) (outputs : List ℕ) → 0 < length outputs
+    → joined_texts s outputs ≡ output_text s (slice_index outputs 0) ++ flat_map (λ u. 32 ∷ output_text s u) (drop 1 outputs)
 joined_of s [] lt = absurd (omega (arith, lt))
 joined_of s (v ∷ vs) lt = joined_is s v vs
 

@@ -56,14 +56,17 @@ pub record IsCopied (d : Design) (v n : ℕ) (from old new : State) : Type 0 whe
   pub words : (k : ℕ) → k < n → slice_index (held new v).words k ≡ slice_index (held from v).words k
   pub others : (u : ℕ) → u ≢ v → held new u ≡ held old u
 
-pub one_copied : (d : Design) (v n : ℕ) (from old new : State) (x : ℕ) → v < length d.vars → IsStateOf d from → n < (var_of d v).words → x ≡ slice_index (held from v).words n → x < 2 ^ (held from v).width
+pub one_copied : (d : Design) (v n : ℕ) (from old new : State) (x : ℕ) → v < length d.vars → IsStateOf d from → n < (var_of d v).words
+    → x ≡ slice_index (held from v).words n → x < 2 ^ (held from v).width
     → IsCopied d v n from old new → IsCopied d v (n + 1) from old (word_written new v n x)
 one_copied d v n from old new x here hf lt e small h = record {
   of = write_keeps d new v n x h.of here (subst (λ w. x < 2 ^ w) ((hf.each v here).as_wide ∙ sym (h.of.each v here).as_wide) small);
   words = λ k l. elim (cases_eq n k) [
     | inl same ↦ subst (λ k. slice_index (held (word_written new v n x) v).words k ≡ slice_index (held from v).words k) same
-        (ap (λ y. slice_index y.words n) (this_held new v n x in_new) ∙ get_or-set_same (held new v).words n x 0 (omega (arith, lt, (h.of.each v here).as_many)) ∙ e)
-    | inr ne ↦ ap (λ y. slice_index y.words k) (this_held new v n x in_new) ∙ get_or-set_other (held new v).words n k x 0 (λ e. ne (sym e)) ∙ h.words k (omega (arith, l, ne))
+        (ap (λ y. slice_index y.words n) (this_held new v n x in_new)
+        ∙ get_or-set_same (held new v).words n x 0 (omega (arith, lt, (h.of.each v here).as_many)) ∙ e)
+    | inr ne ↦ ap (λ y. slice_index y.words k) (this_held new v n x in_new) ∙ get_or-set_other (held new v).words n k x 0 (λ e. ne (sym e))
+        ∙ h.words k (omega (arith, l, ne))
   ];
   others = λ u ne. other_held new v n x u ne ∙ h.others u ne;
 }
@@ -71,7 +74,8 @@ one_copied d v n from old new x here hf lt e small h = record {
     in_new : v < length new
     in_new = omega (arith, here, h.of.as_many)
 
-pub all_copied : (d : Design) (v n : ℕ) (from old new : State) → v < length d.vars → IsStateOf d from → (var_of d v).words ≤ n → IsCopied d v n from old new → held new v ≡ held from v
+pub all_copied : (d : Design) (v n : ℕ) (from old new : State) → v < length d.vars → IsStateOf d from → (var_of d v).words ≤ n → IsCopied d v n from old new
+    → held new v ≡ held from v
 all_copied d v n from old new here hf past h =
     let a : AreWordsOf (var_of d v) (held new v) = h.of.each v here in
     let b : AreWordsOf (var_of d v) (held from v) = hf.each v here in
@@ -108,7 +112,8 @@ module _ (d : Design) (ins : AreInputs d) (values : List ℕ) (row : IsRow d val
   pub value_fits : (s : State) (k : ℕ) → IsStateOf d s → k < length values → slice_index values k < 2 ^ (held s (input_at d k)).width
   value_fits s k hs lt = subst (λ w. slice_index values k < 2 ^ w) (sym (hs.each (input_at d k) (stands k lt)).as_wide) (row.fit k lt)
 
-  pub one_taken : (n : ℕ) (old new : State) → n < length values → AreTaken d n values old new → AreTaken d (n + 1) values old (word_written new (input_at d n) 0 (slice_index values n))
+  pub one_taken : (n : ℕ) (old new : State) → n < length values → AreTaken d n values old new
+      → AreTaken d (n + 1) values old (word_written new (input_at d n) 0 (slice_index values n))
   one_taken n old new lt h = record {
     of = write_keeps d new v 0 x h.of (stands n lt) (value_fits new n h.of lt);
     taken = λ k l. elim (cases_lt k n) [
@@ -152,9 +157,12 @@ module _ (d : Design) (ins : AreInputs d) (values : List ℕ) (row : IsRow d val
       get_or-map (λ v. slice_index (held new v).words 0) (input_vars d) k 0 0 here ∙ h.taken k (omega (arith, here, past, vars_length d.inputs, row.as_many)))
 
 -- the variable of an input that is read from the design's list
-pub var_at : (d : Design) (inputs : List Input) (n : ℕ) (x : Input) → inputs ≡ d.inputs → n < length inputs → x ≡ slice_index_or inputs n x → x.var ≡ input_at d n
-var_at d inputs n x e lt is = ap (λ input. input.var) is ∙ sym (get_or-map (λ input. input.var) inputs n x 0 lt) ∙ ap (λ l. slice_index (map (λ input. input.var) l) n) e
+pub var_at : (d : Design) (inputs : List Input) (n : ℕ) (x : Input) → inputs ≡ d.inputs → n < length inputs → x ≡ slice_index_or inputs n x
+    → x.var ≡ input_at d n
+var_at d inputs n x e lt is = ap (λ input. input.var) is ∙ sym (get_or-map (λ input. input.var) inputs n x 0 lt)
+    ∙ ap (λ l. slice_index (map (λ input. input.var) l) n) e
 
 -- all words of a variable have been gone over
-pub past_words : (d : Design) (v n : ℕ) (vars : List Var) (x : Var) → vars ≡ d.vars → v < length d.vars → (slice_index_or vars v x).words ≤ n → (var_of d v).words ≤ n
+pub past_words : (d : Design) (v n : ℕ) (vars : List Var) (x : Var) → vars ≡ d.vars → v < length d.vars → (slice_index_or vars v x).words ≤ n
+    → (var_of d v).words ≤ n
 past_words d v n vars x e lt le = subst (λ y. y.words ≤ n) (ap (λ l. slice_index_or l v x) e ∙ get_or_default d.vars v x no_var lt) le

@@ -1,5 +1,6 @@
 -- At the edge the processes do one after the other what they do each from the settled state.
-use Rattle.std.proofs.Common.{◌≡◌, ◌∙◌, sym, ap, ap₂, subst, refl, ℕ, zero, suc, ◌+◌, ◌<◌, ◌≤◌, Bool, true, false, ◌||◌, List, [], ◌∷◌, ◌++◌, length, map, inl, inr, arith, true≢false}
+use Rattle.std.proofs.Common.{◌≡◌, ◌∙◌, sym, ap, ap₂, subst, refl, ℕ, zero, suc, ◌+◌, ◌<◌, ◌≤◌, Bool, true, false, ◌||◌, List, [], ◌∷◌, ◌++◌, length, map, inl}
+use Rattle.std.proofs.Common.{inr, arith, true≢false}
 use Rattle.std.specs.Prelude.{IsTrue, flat_map}
 use Rattle.std.specs.List.{list_any}
 use Rattle.std.proofs.lemmas.Bool.{cases_Bool, cases_lt}
@@ -56,7 +57,8 @@ module _ (d : Design) (valid : IsValidDesign d) (flows : Flows d) (s : State) (h
   gathered part n front last lt k hf hl =
       ap₂ (λ a b. a ++ b) hf (hl ∙ sym (no_more (part (run_of (process_of d n) s))))
       ∙ sym (flat_map-append part (runs s (first_of runs_at_edge d n)) (run_of (process_of d n) s ∷ []))
-      ∙ ap (flat_map part) (sym (map-append (λ p. run_of p s) (first_of runs_at_edge d n) (process_of d n ∷ [])) ∙ sym (ap (runs s) (here runs_at_edge d n lt k)))
+      ∙ ap (flat_map part) (sym (map-append (λ p. run_of p s) (first_of runs_at_edge d n) (process_of d n ∷ []))
+      ∙ sym (ap (runs s) (here runs_at_edge d n lt k)))
 
   flagged : (flag : Outcome ℕ → Bool) (n : ℕ) (front last : Bool) → n < length d.processes → runs_at_edge (kind_of d n) ≡ true
       → front ≡ list_any flag (runs s (first_of runs_at_edge d n)) → last ≡ flag (run_of (process_of d n) s)
@@ -64,9 +66,11 @@ module _ (d : Design) (valid : IsValidDesign d) (flows : Flows d) (s : State) (h
   flagged flag n front last lt k hf hl =
       ap₂ (λ a b. a || b) hf (hl ∙ sym (or_false (flag (run_of (process_of d n) s))))
       ∙ sym (any_append flag (runs s (first_of runs_at_edge d n)) (run_of (process_of d n) s ∷ []))
-      ∙ ap (list_any flag) (sym (map-append (λ p. run_of p s) (first_of runs_at_edge d n) (process_of d n ∷ [])) ∙ sym (ap (runs s) (here runs_at_edge d n lt k)))
+      ∙ ap (list_any flag) (sym (map-append (λ p. run_of p s) (first_of runs_at_edge d n) (process_of d n ∷ []))
+      ∙ sym (ap (runs s) (here runs_at_edge d n lt k)))
 
-  one_here : (n : ℕ) → n < length d.processes → runs_at_edge (kind_of d n) ≡ true → Chained d s n (first_turns runs_at_edge d n s) → Chained d s (n + 1) (first_turns runs_at_edge d (n + 1) s)
+  one_here : (n : ℕ) → n < length d.processes → runs_at_edge (kind_of d n) ≡ true → Chained d s n (first_turns runs_at_edge d n s)
+      → Chained d s (n + 1) (first_turns runs_at_edge d (n + 1) s)
   one_here n lt k c = subst (Chained d s (n + 1)) (sym (turned runs_at_edge d n s lt k)) (record {
     of = runs_keep_states d n (first_turns runs_at_edge d n s).state valid c.of;
     blocked = more.0;
@@ -98,7 +102,8 @@ module _ (d : Design) (valid : IsValidDesign d) (flows : Flows d) (s : State) (h
         | inr m ↦ (let e : n ≡ p = omega (arith, lt, m) in absurd (true≢false (sym at ∙ sym (ap (λ q. runs_at_edge (kind_of d q)) e) ∙ k)))
       ]
 
-  none_here : (n : ℕ) → n < length d.processes → runs_at_edge (kind_of d n) ≡ false → Chained d s n (first_turns runs_at_edge d n s) → Chained d s (n + 1) (first_turns runs_at_edge d (n + 1) s)
+  none_here : (n : ℕ) → n < length d.processes → runs_at_edge (kind_of d n) ≡ false → Chained d s n (first_turns runs_at_edge d n s)
+      → Chained d s (n + 1) (first_turns runs_at_edge d (n + 1) s)
   none_here n lt k c = subst (Chained d s (n + 1)) (sym (not_turned runs_at_edge d n s lt k)) (record {
     of = c.of;
     blocked = passed n (first_turns runs_at_edge d n s).state k c.blocked;
@@ -129,7 +134,8 @@ module _ (d : Design) (valid : IsValidDesign d) (flows : Flows d) (s : State) (h
   ])
 
   runs_are : runs s (first_of runs_at_edge d (length d.processes)) ≡ edge_runs (circuit_of d) s
-  runs_are = ap (runs s) (all_first runs_at_edge d (length d.processes) (omega arith)) ∙ sym (ap (map (λ p. p.run s)) (chosen runs_at_edge d.processes) ∙ each (processes_that runs_at_edge d))
+  runs_are = ap (runs s) (all_first runs_at_edge d (length d.processes) (omega arith)) ∙ sym (ap (map (λ p. p.run s)) (chosen runs_at_edge d.processes)
+      ∙ each (processes_that runs_at_edge d))
     where
       each : (ps : List Process) → map (λ p. p.run s) (map as_process ps) ≡ map (λ p. run_of p s) ps
       each [] = refl

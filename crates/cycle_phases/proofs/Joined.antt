@@ -20,7 +20,8 @@ module _ (s : State) (u v : List Part) (t w n m : List ℕ) (f e g h : Bool) (hu
   parts = outcome s u t n f g
 
   same : outcome s u t n f g ≡ outcome s v w m e h
-  same = ap (λ x. outcome s x t n f g) hu ∙ ap (λ x. outcome s v x n f g) ht ∙ ap (λ x. outcome s v w x f g) hn ∙ ap (λ x. outcome s v w m x g) hf ∙ ap (λ x. outcome s v w m e x) hg
+  same = ap (λ x. outcome s x t n f g) hu ∙ ap (λ x. outcome s v x n f g) ht ∙ ap (λ x. outcome s v w x f g) hn ∙ ap (λ x. outcome s v w m x g) hf
+      ∙ ap (λ x. outcome s v w m e x) hg
 
 no_more : {X : Type 0} (xs : List X) → xs ++ [] ≡ xs
 no_more [] = refl
@@ -28,12 +29,14 @@ no_more (x ∷ xs) = ap (λ l. x ∷ l) (no_more xs)
 
 none_behind : (a : Outcome ℕ) → joined a (unchanged a.state) ≡ a
 unfolding outcome
-none_behind a = same a.state (a.updates ++ []) a.updates (a.text ++ []) a.text (a.notes ++ []) a.notes (a.finished || false) a.finished (a.stopped || false) a.stopped
+none_behind a = same a.state (a.updates ++ []) a.updates (a.text ++ []) a.text (a.notes
+    ++ []) a.notes (a.finished || false) a.finished (a.stopped || false) a.stopped
     (no_more a.updates) (no_more a.text) (no_more a.notes) (or_false a.finished) (or_false a.stopped)
 
 joined_assoc : (a b c : Outcome ℕ) → joined a (joined b c) ≡ joined (joined a b) c
 unfolding outcome
-joined_assoc a b c = sym (same c.state (a.updates ++ b.updates ++ c.updates) (a.updates ++ (b.updates ++ c.updates)) (a.text ++ b.text ++ c.text) (a.text ++ (b.text ++ c.text))
+joined_assoc a b c = sym (same c.state (a.updates ++ b.updates ++ c.updates) (a.updates ++ (b.updates ++ c.updates)) (a.text ++ b.text ++ c.text) (a.text
+    ++ (b.text ++ c.text))
     (a.notes ++ b.notes ++ c.notes) (a.notes ++ (b.notes ++ c.notes)) ((a.finished || b.finished) || c.finished) (a.finished || (b.finished || c.finished))
     ((a.stopped || b.stopped) || c.stopped) (a.stopped || (b.stopped || c.stopped))
     (append_assoc a.updates b.updates c.updates) (append_assoc a.text b.text c.text) (append_assoc a.notes b.notes c.notes)
@@ -41,7 +44,8 @@ joined_assoc a b c = sym (same c.state (a.updates ++ b.updates ++ c.updates) (a.
 
 pub turn_more : (acts : List (Act ℕ)) (act : Act ℕ) (s : State) → in_turn (acts ++ act ∷ []) s ≡ joined (in_turn acts s) (act (in_turn acts s).state)
 turn_more [] act s = none_behind (act s)
-turn_more (first ∷ acts) act s = ap (joined (first s)) (turn_more acts act (first s).state) ∙ joined_assoc (first s) (in_turn acts (first s).state) (act (in_turn acts (first s).state).state)
+turn_more (first ∷ acts) act s = ap (joined (first s)) (turn_more acts act (first s).state)
+    ∙ joined_assoc (first s) (in_turn acts (first s).state) (act (in_turn acts (first s).state).state)
 
 -- ---- the first n processes
 
@@ -58,7 +62,8 @@ module _ (sort : ProcessKind → Bool) (d : Design) where
   one_or_none p = refl
 
   pub first_more : (n : ℕ) → n < length d.processes → first_of (n + 1) ≡ first_of n ++ cond (sort (process_of d n).kind) (process_of d n ∷ []) []
-  first_more n lt = ap (filter (λ p. sort p.kind)) (take_more d.processes n no_process lt) ∙ filter-append (λ p. sort p.kind) (take n d.processes) (process_of d n ∷ [])
+  first_more n lt = ap (filter (λ p. sort p.kind)) (take_more d.processes n no_process lt)
+      ∙ filter-append (λ p. sort p.kind) (take n d.processes) (process_of d n ∷ [])
 
   pub here : (n : ℕ) → n < length d.processes → sort (process_of d n).kind ≡ true → first_of (n + 1) ≡ first_of n ++ process_of d n ∷ []
   here n lt t = first_more n lt ∙ ap (λ c. first_of n ++ cond c (process_of d n ∷ []) []) t

@@ -30,7 +30,8 @@ pub record Turning (sort : ProcessKind → Bool) (d : Design) (s : State) (n : �
   pub stand : All (λ part. part.var < length d.vars) e.updates
   pub ticks : new ≡ old + length (first_of sort d n)
 
-pub begins : (sort : ProcessKind → Bool) (d : Design) (s : State) (e : Effects) (room : Room) (ticks : ℕ) → IsStateOf d s → e ≡ empty room → room ≡ room_of_all d → Turning sort d s 0 s e ticks ticks
+pub begins : (sort : ProcessKind → Bool) (d : Design) (s : State) (e : Effects) (room : Room) (ticks : ℕ) → IsStateOf d s → e ≡ empty room
+    → room ≡ room_of_all d → Turning sort d s 0 s e ticks ticks
 begins sort d s e room ticks hs is same = subst (λ e. Turning sort d s 0 s e ticks ticks) (sym (is ∙ ap empty same)) (record {
   of = hs;
   state = refl;
@@ -54,11 +55,13 @@ module _ (sort : ProcessKind → Bool) (d : Design) (s : State) (n : ℕ) (now :
     for_counters = omega (arith, fits_here.for_counters);
   }
 
-  pub one_turn : IsValidDesign d → sort (process_of d n).kind ≡ true → Turning sort d s (n + 1) (after d n now) (added e (run_of (process_of d n) now)) old (new + 1)
+  pub one_turn : IsValidDesign d → sort (process_of d n).kind ≡ true
+      → Turning sort d s (n + 1) (after d n now) (added e (run_of (process_of d n) now)) old (new + 1)
   one_turn valid k = record {
     of = runs_keep_states d n now valid t.of;
     state = ap (λ u. (run_of (process_of d n) u).state) t.state ∙ sym (ap (λ o. o.state) (turned sort d n s lt k));
-    effects = ap (λ x. added x (run_of (process_of d n) now)) t.effects ∙ added_more (empty (room_of_all d)) (first_turns sort d n s) (run_of (process_of d n) now)
+    effects = ap (λ x. added x (run_of (process_of d n) now)) t.effects
+        ∙ added_more (empty (room_of_all d)) (first_turns sort d n s) (run_of (process_of d n) now)
         ∙ ap (λ u. added (empty (room_of_all d)) (joined (first_turns sort d n s) (run_of (process_of d n) u))) t.state
         ∙ ap (added (empty (room_of_all d))) (sym (turned sort d n s lt k));
     fits = record {

@@ -40,7 +40,8 @@ never_both kind.Initial s e = cc s
 never_both kind.Cover s e = cc s
 
 -- no process at the edge drives a bit that an assignment or a combinational process drives
-apart : (d : Design) → Flows d → (p q : ℕ) (b : Bit) → IsTrue (settles (kind_of d p)) → IsTrue (runs_at_edge (kind_of d q)) → IsBitOf d b → IsTrue (drives d p b) → IsTrue (drives d q b) → ⊥
+apart : (d : Design) → Flows d → (p q : ℕ) (b : Bit) → IsTrue (settles (kind_of d p)) → IsTrue (runs_at_edge (kind_of d q)) → IsBitOf d b
+    → IsTrue (drives d p b) → IsTrue (drives d q b) → ⊥
 apart d flows p q b sp eq hb dp dq = elim (cases_order p q) [
   | inl e ↦ never_both (kind_of d p) sp (ap (λ r. runs_at_edge (kind_of d r)) e ∙ eq)
   | inr o ↦ elim o [
@@ -86,7 +87,8 @@ start_writes_regs kind.Initial h = refl
 start_writes_regs kind.Cover h = refl
 
 -- what processes that write regs leave has 0 on undriven wires where the state had
-pub wires_stay : (d : Design) (sort : ProcessKind → Bool) → WritesRegs sort → (s : State) → IsValidDesign d → IsStateOf d s → ((b : Bit) → IsUndrivenBit d b → bit s b ≡ 0)
+pub wires_stay : (d : Design) (sort : ProcessKind → Bool) → WritesRegs sort → (s : State) → IsValidDesign d → IsStateOf d s → ((b : Bit) → IsUndrivenBit d b
+    → bit s b ≡ 0)
     → (b : Bit) → IsUndrivenBit d b → bit (all_written (turns sort d s).state (turns sort d s).updates) b ≡ 0
 wires_stay d sort regs s valid hs none b h = phases_leave d sort s b valid hs h.here (λ p lt k. elim (cases_Bool (drives d p b)) [
   | inl dp ↦ absurd (wire_reg (sym h.of_wire ∙ drives_its_kind d p b valid dp ∙ regs (kind_of d p) k))

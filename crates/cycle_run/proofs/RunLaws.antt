@@ -1,5 +1,6 @@
 -- From the parts of a call to the start of a run and to a cycle of it.
-use Rattle.std.proofs.Common.{◌≡◌, ◌≢◌, ◌∙◌, sym, ap, ap₂, subst, refl, ℕ, zero, suc, ◌+◌, ◌*◌, ◌<◌, ◌≤◌, ◌^◌, ◌==◌, Bool, true, false, List, [], ◌∷◌, ◌++◌, length, map, filter, inl, inr, arith, cond}
+use Rattle.std.proofs.Common.{◌≡◌, ◌≢◌, ◌∙◌, sym, ap, ap₂, subst, refl, ℕ, zero, suc, ◌+◌, ◌*◌, ◌<◌, ◌≤◌, ◌^◌, ◌==◌, Bool, true, false, List, [], ◌∷◌, ◌++◌}
+use Rattle.std.proofs.Common.{length, map, filter, inl, inr, arith, cond}
 use Rattle.std.specs.Prelude.{IsTrue, Option, Some, None, flat_map, replicate, slice_index}
 use Rattle.std.specs.Int.{bit_at}
 use Rattle.std.proofs.lemmas.Bool.{ne_eqb}
@@ -64,8 +65,10 @@ starts x s after old counts text end is zeros left counted printed ends =
     }
 
 -- before the initial processes undriven wires are 0
-pub start_wires : (d : Design) (s : State) → ((v : ℕ) → v < length d.vars → IsVariable (var_of d v)) → IsStartState (circuit_of d) s → (b : Bit) → IsUndrivenBit d b → bit s b ≡ 0
-start_wires d s variables h b u = h.given b u.here u.undriven ∙ ap (λ n. bit_at n b.place) (no_start (variables b.var u.here.of_variable).starts) ∙ bit_at-zero b.place
+pub start_wires : (d : Design) (s : State) → ((v : ℕ) → v < length d.vars → IsVariable (var_of d v)) → IsStartState (circuit_of d) s → (b : Bit)
+    → IsUndrivenBit d b → bit s b ≡ 0
+start_wires d s variables h b u = h.given b u.here u.undriven ∙ ap (λ n. bit_at n b.place) (no_start (variables b.var u.here.of_variable).starts)
+    ∙ bit_at-zero b.place
   where
     no_start : HasStart (var_of d b.var) → (var_of d b.var).start ≡ 0
     no_start t = elim t [
@@ -79,13 +82,15 @@ shuffled : (a b c k : ℕ) → a + b + c + k ≡ a + (b + k) + c
 shuffled a b c k = omega arith
 
 -- toggles counted before the edge, or behind it
-pub counted_cycle : (old mid new comb edge toggles : List ℕ) → HasCounted old (comb ++ toggles) mid → HasCounted mid edge new → HasCounted old ((comb ++ edge) ++ toggles) new
+pub counted_cycle : (old mid new comb edge toggles : List ℕ) → HasCounted old (comb ++ toggles) mid → HasCounted mid edge new
+    → HasCounted old ((comb ++ edge) ++ toggles) new
 counted_cycle old mid new comb edge toggles h i = record {
   as_many = i.as_many ∙ h.as_many;
   each = λ k lt. omega (arith, h.each k lt, i.each k (omega (arith, lt, h.as_many)), how_many_both k comb toggles, how_many_both k comb edge, how_many_both k (comb ++ edge) toggles);
 }
 
-pub cycles : (x : Instrumented) (first : Bool) (r before s after : State) (row old mid new text : List ℕ) (end : End) → IsValidDesign x.design → Flows x.design → IsSettled x.design r row s
+pub cycles : (x : Instrumented) (first : Bool) (r before s after : State) (row old mid new text : List ℕ) (end : End) → IsValidDesign x.design
+    → Flows x.design → IsSettled x.design r row s
     → HasCounted old (comb_raised x.design s ++ toggled (settled_before first before) s x.toggles) mid
     → after ≡ all_written (turns runs_at_edge x.design s).state (turns runs_at_edge x.design s).updates
     → HasCounted mid (turns runs_at_edge x.design s).notes new
@@ -115,13 +120,22 @@ length_toggled None s es = omega arith
 length_toggled (Some before) s [] = omega arith
 length_toggled (Some before) s (x ∷ es) = go (is_toggled before s x) (length_toggled (Some before) s es)
   where
-    go : (b : Bool) → length (toggled (Some before) s es) ≤ length es → length (map (λ e. e.counter) (cond b (x ∷ filter (is_toggled before s) es) (filter (is_toggled before s) es))) ≤ suc (length es)
+    go : (b : Bool) → length (toggled (Some before) s es) ≤ length es
+        → length (map (λ e. e.counter) (cond b (x ∷ filter (is_toggled before s) es) (filter (is_toggled before s) es))) ≤ suc (length es)
     go true h = omega (arith, h)
     go false h = omega (arith, h)
 
-pub few_settled : (old : Option State) (s : State) (es : List ToggleEntry) (a b comb : List ℕ) (n k : ℕ) → HasCounted a (comb ++ toggled old s es) b → length comb ≤ n
+pub few_settled : (old : Option State) (s : State) (es : List ToggleEntry) (a b comb : List ℕ) (n k : ℕ) → HasCounted a (comb ++ toggled old s es) b
+    → length comb ≤ n
     → slice_index b k ≤ slice_index a k + n + length es
-few_settled old s es a b comb n k h le = omega (arith, counted_least a (comb ++ toggled old s es) b k h, length-append comb (toggled old s es), length_toggled old s es, le)
+few_settled old s es a b comb n k h le = omega (
+  arith,
+  counted_least a (comb
+      ++ toggled old s es) b k h,
+  length-append comb (toggled old s es),
+  length_toggled old s es,
+  le,
+)
 
 pub few_more : (a b r : List ℕ) (n k : ℕ) → HasCounted a r b → length r ≤ n → slice_index b k ≤ slice_index a k + n
 few_more a b r n k h le = omega (arith, counted_least a r b k h, le)

@@ -16,7 +16,8 @@ use Rattle.design_tree.specs.declared.design.Process.{Process}
 use Rattle.design_tree.specs.declared.design.Design.{Design}
 use Rattle.circuit_run.specs.Lists.{total}
 use Rattle.design_meaning.specs.Sizes.{step_size, arm_size, steps_in}
-use Rattle.design_meaning.specs.Mentions.{Mention, expression, destination, shown, counted, item_mentions, piece_mentions, mention_counters, step_mentions, arm_mentions}
+use Rattle.design_meaning.specs.Mentions.{Mention, expression, destination, shown, counted, item_mentions, piece_mentions, mention_counters, step_mentions}
+use Rattle.design_meaning.specs.Mentions.{arm_mentions}
 use Rattle.design_meaning.specs.Valid.{all_steps}
 use Rattle.design_meaning.proofs.StepFolds as steps
 use Rattle.design_meaning.proofs.StepInduction.{ArmHas, step_induction}
@@ -61,7 +62,8 @@ few_all : (xs : List Step) → AllByRecursion Few xs → mentioned (flat_map men
 few_all [] h = omega arith
 few_all (x ∷ xs) h = omega (arith, both (mentions_in x) (flat_map mentions_in xs), h.0, few_all xs h.1)
 
-few_arms : (arms : List StepArm) → AllByRecursion (ArmHas Few) arms → mentioned (flat_map arm_mentions_in arms) ≤ total (map (fold-StepArm ℕ ℕ step_size arm_size) arms)
+few_arms : (arms : List StepArm) → AllByRecursion (ArmHas Few) arms
+    → mentioned (flat_map arm_mentions_in arms) ≤ total (map (fold-StepArm ℕ ℕ step_size arm_size) arms)
 few_arms [] h = omega arith
 few_arms (arm ∷ arms) h =
     let own : mentioned (arm_mentions_in arm) ≡ mentioned (flat_map item_mentions arm.items) + mentioned (flat_map mentions_in arm.body) =
@@ -98,7 +100,8 @@ few_of = step_induction Few
     (λ ts v. none_few (step.Later ts v) (ap mentioned (later_mentions ts v) ∙ targets_none ts v))
     few_if
     few_case
-    (λ ps. none_few (step.Show ps) (ap mentioned (show_mentions ps) ∙ both (map shown ps) (flat_map piece_mentions ps) ∙ omega (arith, pieces_shown ps, pieces_none ps)))
+    (λ ps. none_few (step.Show ps) (ap mentioned (show_mentions ps) ∙ both (map shown ps) (flat_map piece_mentions ps)
+    ∙ omega (arith, pieces_shown ps, pieces_none ps)))
     (none_few step.Finish (ap mentioned (steps.fold-Finish (List Mention) (List Mention) step_mentions arm_mentions)))
     (none_few step.Stop (ap mentioned (steps.fold-Stop (List Mention) (List Mention) step_mentions arm_mentions)))
     (λ c. omega (arith, ap mentioned (count_mentions c), steps.fold-Count ℕ ℕ step_size arm_size c))

@@ -1,5 +1,6 @@
 -- What combinational processes raise, process by process.
-use Rattle.std.proofs.Common.{◌≡◌, ◌∙◌, sym, ap, ap₂, subst, refl, ℕ, zero, suc, ◌+◌, ◌<◌, ◌≤◌, ◌^◌, Bool, true, false, cond, List, [], ◌∷◌, ◌++◌, length, map, filter, drop, take, inl, inr, arith}
+use Rattle.std.proofs.Common.{◌≡◌, ◌∙◌, sym, ap, ap₂, subst, refl, ℕ, zero, suc, ◌+◌, ◌<◌, ◌≤◌, ◌^◌, Bool, true, false, cond, List, [], ◌∷◌, ◌++◌, length, map}
+use Rattle.std.proofs.Common.{filter, drop, take, inl, inr, arith}
 use Rattle.std.specs.Prelude.{IsTrue, flat_map, slice_index, slice_index_or}
 use Rattle.std.proofs.lemmas.Bool.{cases_Bool}
 use Rattle.std.proofs.lemmas.List.{take_more, take_all, drop_more, map-append, length-append, get_or_default}
@@ -40,7 +41,8 @@ pub record Counted (d : Design) (kept : List Raised) (n : ℕ) (old new : List �
   pub counted : HasCounted old (kept_below d kept n) new
   pub within : length (kept_below d kept n) + (rooms d (drop n d.processes)).counters ≤ (room_of_all d).counters
 
-next_below : (d : Design) (kept : List Raised) (n : ℕ) → kept_below d kept (n + 1) ≡ kept_below d kept n ++ cond (is_comb (kind_of d n)) (kept_of kept n).counters []
+next_below : (d : Design) (kept : List Raised) (n : ℕ) → kept_below d kept (n + 1) ≡ kept_below d kept n
+    ++ cond (is_comb (kind_of d n)) (kept_of kept n).counters []
 next_below d kept n = ap (kept_below d kept) (one n)
   where
     one : (n : ℕ) → n + 1 ≡ suc n
@@ -49,11 +51,13 @@ next_below d kept n = ap (kept_below d kept) (one n)
 pub none_counted : (d : Design) (kept : List Raised) (counts : List ℕ) → Counted d kept 0 counts counts
 none_counted d kept counts = record { counted = record { as_many = refl; each = λ k lt. omega arith }; within = omega arith }
 
-room_here : (d : Design) (n : ℕ) → n < length d.processes → (rooms d (drop n d.processes)).counters ≡ (room_of d (process_of d n)).counters + (rooms d (drop (n + 1) d.processes)).counters
+room_here : (d : Design) (n : ℕ) → n < length d.processes → (rooms d (drop n d.processes)).counters
+    ≡ (room_of d (process_of d n)).counters + (rooms d (drop (n + 1) d.processes)).counters
 room_here d n lt = ap (λ ps. (rooms d ps).counters) (drop_more d.processes n no_process lt)
 
 -- there is room to raise what is kept of one more
-pub can_raise : (d : Design) (kept : List Raised) (n : ℕ) (old new : List ℕ) → n < length d.processes → AreFew d kept → IsTrue (is_comb (kind_of d n)) → CanRaise old (room_of_all d).counters
+pub can_raise : (d : Design) (kept : List Raised) (n : ℕ) (old new : List ℕ) → n < length d.processes → AreFew d kept → IsTrue (is_comb (kind_of d n))
+    → CanRaise old (room_of_all d).counters
     → Counted d kept n old new → (k : ℕ) → slice_index new k + length (kept_of kept n).counters < 2 ^ 64
 can_raise d kept n old new lt few c fit h k = omega (arith, fit k, counted_least old (kept_below d kept n) new k h.counted, h.within, room_here d n lt, few.few n lt c)
 
@@ -67,7 +71,8 @@ one_counted d kept n old mid new lt few c h one = record {
     here : kept_below d kept (n + 1) ≡ kept_below d kept n ++ (kept_of kept n).counters
     here = next_below d kept n ∙ ap (λ b. kept_below d kept n ++ cond b (kept_of kept n).counters []) c
 
-pub not_counted : (d : Design) (kept : List Raised) (n : ℕ) (old new : List ℕ) → n < length d.processes → is_comb (kind_of d n) ≡ false → Counted d kept n old new → Counted d kept (n + 1) old new
+pub not_counted : (d : Design) (kept : List Raised) (n : ℕ) (old new : List ℕ) → n < length d.processes → is_comb (kind_of d n) ≡ false
+    → Counted d kept n old new → Counted d kept (n + 1) old new
 not_counted d kept n old new lt c h = record {
   counted = subst (λ r. HasCounted old r new) (sym here) h.counted;
   within = omega (arith, h.within, room_here d n lt, ap length here);
@@ -84,21 +89,24 @@ raised_here s p = (run_of p s).notes
 abbrev first_raised : Design → State → ℕ → List ℕ
 first_raised d s n = flat_map (λ p. (run_of p s).notes) (filter (λ p. is_comb p.kind) (take n d.processes))
 
-one_raised : (s : State) (p : Process) → flat_map (λ p. (run_of p s).notes) (filter (λ p. is_comb p.kind) (p ∷ [])) ≡ cond (is_comb p.kind) (run_of p s).notes []
+one_raised : (s : State) (p : Process) → flat_map (λ p. (run_of p s).notes) (filter (λ p. is_comb p.kind) (p ∷ []))
+    ≡ cond (is_comb p.kind) (run_of p s).notes []
 one_raised s p = go (is_comb p.kind)
   where
     go : (b : Bool) → flat_map (λ p. (run_of p s).notes) (cond b (p ∷ []) []) ≡ cond b (run_of p s).notes []
     go true = no_more (run_of p s).notes
     go false = refl
 
-more_raised : (d : Design) (s : State) (n : ℕ) → n < length d.processes → first_raised d s (n + 1) ≡ first_raised d s n ++ cond (is_comb (kind_of d n)) (raised_by d n s) []
+more_raised : (d : Design) (s : State) (n : ℕ) → n < length d.processes
+    → first_raised d s (n + 1) ≡ first_raised d s n ++ cond (is_comb (kind_of d n)) (raised_by d n s) []
 more_raised d s n lt =
     ap (λ ps. flat_map (λ p. (run_of p s).notes) (filter (λ p. is_comb p.kind) ps)) (take_more d.processes n no_process lt)
     ∙ ap (flat_map (λ p. (run_of p s).notes)) (filter-append (λ p. is_comb p.kind) (take n d.processes) (process_of d n ∷ []))
     ∙ flat_map-append (λ p. (run_of p s).notes) (filter (λ p. is_comb p.kind) (take n d.processes)) (filter (λ p. is_comb p.kind) (process_of d n ∷ []))
     ∙ ap (λ l. first_raised d s n ++ l) (one_raised s (process_of d n))
 
-same_one : (d : Design) (s : State) (kept : List Raised) (n : ℕ) → AreRaised d s kept → cond (is_comb (kind_of d n)) (kept_of kept n).counters [] ≡ cond (is_comb (kind_of d n)) (raised_by d n s) []
+same_one : (d : Design) (s : State) (kept : List Raised) (n : ℕ) → AreRaised d s kept
+    → cond (is_comb (kind_of d n)) (kept_of kept n).counters [] ≡ cond (is_comb (kind_of d n)) (raised_by d n s) []
 same_one d s kept n are = elim (cases_Bool (is_comb (kind_of d n))) [
   | inl c ↦ ap (λ b. cond b (kept_of kept n).counters []) c ∙ are n (comb_settles (kind_of d n) c) ∙ sym (ap (λ b. cond b (raised_by d n s) []) c)
   | inr c ↦ ap (λ b. cond b (kept_of kept n).counters []) c ∙ sym (ap (λ b. cond b (raised_by d n s) []) c)
@@ -122,10 +130,12 @@ comb_is d s = ap (λ ps. flat_map (λ p. (run_of p s).notes) (filter (λ p. is_c
 
 pub all_counted : (d : Design) (kept : List Raised) (n : ℕ) (old new : List ℕ) → n ≡ length d.processes → Counted d kept n old new
     → (s : State) → AreRaised d s kept → HasCounted old (comb_raised d s) new
-all_counted d kept n old new e h s are = subst (λ r. HasCounted old r new) (ap (kept_below d kept) e ∙ below_is d s kept are (length d.processes) (omega arith) ∙ comb_is d s) h.counted
+all_counted d kept n old new e h s are = subst (λ r. HasCounted old r new) (ap (kept_below d kept) e
+    ∙ below_is d s kept are (length d.processes) (omega arith) ∙ comb_is d s) h.counted
 
 -- how many are raised
-comb_room : (d : Design) (s : State) (kept : List Raised) (n : ℕ) → AreFew d kept → n ≤ length d.processes → length (kept_below d kept n) + (rooms d (drop n d.processes)).counters ≤ (room_of_all d).counters
+comb_room : (d : Design) (s : State) (kept : List Raised) (n : ℕ) → AreFew d kept → n ≤ length d.processes
+    → length (kept_below d kept n) + (rooms d (drop n d.processes)).counters ≤ (room_of_all d).counters
 comb_room d s kept zero few le = omega arith
 comb_room d s kept (suc n) few le = subst (λ m. length (kept_below d kept (suc n)) + (rooms d (drop m d.processes)).counters ≤ (room_of_all d).counters) (one n)
     (elim (cases_Bool (is_comb (kind_of d n))) [
@@ -152,12 +162,14 @@ pub comb_few : (d : Design) (s : State) (kept : List Raised) → AreFew d kept �
 comb_few d s kept few are = omega (arith, comb_room d s kept (length d.processes) few (omega arith), ap length (below_is d s kept are (length d.processes) (omega arith) ∙ comb_is d s))
 
 -- no more is kept of a process than a run raises
-pub are_few : (d : Design) (s : State) (kept : List Raised) → IsValidDesign d → IsStateOf d s → length kept ≡ length d.processes → AreRaised d s kept → AreFew d kept
+pub are_few : (d : Design) (s : State) (kept : List Raised) → IsValidDesign d → IsStateOf d s → length kept ≡ length d.processes → AreRaised d s kept
+    → AreFew d kept
 are_few d s kept valid hs many are = record {
   as_many = many;
   few = λ p lt c. omega (arith, ap length (are p (comb_settles (kind_of d p) c)), (runs_within d p s valid hs lt).counters);
 }
 
-pub room_for_toggles : (d : Design) (s : State) (kept : List Raised) (old new : List ℕ) (n k : ℕ) → AreFew d kept → AreRaised d s kept → CanRaise old ((room_of_all d).counters + n)
+pub room_for_toggles : (d : Design) (s : State) (kept : List Raised) (old new : List ℕ) (n k : ℕ) → AreFew d kept → AreRaised d s kept
+    → CanRaise old ((room_of_all d).counters + n)
     → HasCounted old (comb_raised d s) new → slice_index new k + n < 2 ^ 64
 room_for_toggles d s kept old new n k few are fit h = omega (arith, fit k, counted_least old (comb_raised d s) new k h, comb_few d s kept few are)

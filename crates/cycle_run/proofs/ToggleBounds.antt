@@ -1,5 +1,6 @@
 -- A design has no more toggle entries than bits.
-use Rattle.std.proofs.Common.{◌≡◌, ◌≢◌, ◌∙◌, sym, ap, subst, refl, ℕ, zero, suc, ◌+◌, ◌*◌, ◌<◌, ◌≤◌, ◌⊎◌, inl, inr, true, false, List, [], ◌∷◌, length, map, take, arith}
+use Rattle.std.proofs.Common.{◌≡◌, ◌≢◌, ◌∙◌, sym, ap, subst, refl, ℕ, zero, suc, ◌+◌, ◌*◌, ◌<◌, ◌≤◌, ◌⊎◌, inl, inr, true, false, List, [], ◌∷◌, length, map}
+use Rattle.std.proofs.Common.{take, arith}
 use Rattle.std.specs.Prelude.{All, AllPairs, slice_index_or, nat_lt}
 use Rattle.std.specs.Ordering.{nat_cmp, ordering_then}
 use Rattle.std.specs.declared.cmp.Ordering.{Ordering}
@@ -91,7 +92,8 @@ module _ (d : Design) where
       let v = var_of d t.var in
       omega (arith, one_more d.vars t.var h.of_variable, h.in_width, row v.width t.word v.words h.of_word)
 
-  ascends : (a b : ToggleEntry) → IsBitOf d (toggle_bit a) → IsBitOf d (toggle_bit b) → IsBefore (toggle_place a) (toggle_place b) → number d.vars a < number d.vars b
+  ascends : (a b : ToggleEntry) → IsBitOf d (toggle_bit a) → IsBitOf d (toggle_bit b) → IsBefore (toggle_place a) (toggle_place b)
+      → number d.vars a < number d.vars b
   ascends a b ha hb h = elim (first_or_rest a.var b.var _ h) [
     | inl less ↦ omega (arith, in_variable a ha, grows d.vars (suc a.var) b.var (omega (arith, less)))
     | inr r ↦ elim (first_or_rest a.word b.word _ r.1) [

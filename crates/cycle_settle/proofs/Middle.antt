@@ -1,5 +1,6 @@
 -- Settling in the middle: the first n processes of the order have been run or skipped.
-use Rattle.std.proofs.Common.{◌≡◌, ◌≢◌, ◌∙◌, sym, ap, subst, refl, ℕ, zero, suc, ◌+◌, ◌<◌, ◌≤◌, ◌⊎◌, inl, inr, Bool, true, false, true≢false, List, [], ◌∷◌, ◌++◌, length, take, drop, arith}
+use Rattle.std.proofs.Common.{◌≡◌, ◌≢◌, ◌∙◌, sym, ap, subst, refl, ℕ, zero, suc, ◌+◌, ◌<◌, ◌≤◌, ◌⊎◌, inl, inr, Bool, true, false, true≢false, List, [], ◌∷◌}
+use Rattle.std.proofs.Common.{◌++◌, length, take, drop, arith}
 use Rattle.std.specs.Prelude.{All, AllPairs, Contains, IsTrue, slice_index_or, slice_set}
 use Rattle.std.proofs.lemmas.Bool.{cases_Bool, cases_eq, cases_lt}
 use Rattle.std.proofs.lemmas.List.{get_or-set_same, get_or-set_other, length-set, get_or_default, get_or-drop, drop_more, drop_all, get_or_past, length-drop}
@@ -47,9 +48,11 @@ pub record Ticked (all : Bool) (d : Design) (order : List ℕ) (before final : S
 pub record Middle (all : Bool) (d : Design) (order : List ℕ) (before final : State) (n : ℕ) (now : State) (kept : List Raised) (old new : ℕ) : Type 0 where
   pub of : IsStateOf d now
   pub ends : after_all d (drop n order) now ≡ final
-  pub alike : all ≡ false → (j : ℕ) → n ≤ j → j < length order → (b : Bit) → IsBitOf d b → IsTrue (drives d (slice_index_or order j 0) b) → bit now b ≡ bit before b
+  pub alike : all ≡ false → (j : ℕ) → n ≤ j → j < length order → (b : Bit) → IsBitOf d b → IsTrue (drives d (slice_index_or order j 0) b)
+      → bit now b ≡ bit before b
   pub done : (j : ℕ) → j < n → j < length order → (kept_of kept (slice_index_or order j 0)).counters ≡ raised_by d (slice_index_or order j 0) final
-  pub ahead : all ≡ false → (j : ℕ) → n ≤ j → j < length order → (kept_of kept (slice_index_or order j 0)).counters ≡ raised_by d (slice_index_or order j 0) before
+  pub ahead : all ≡ false → (j : ℕ) → n ≤ j → j < length order
+      → (kept_of kept (slice_index_or order j 0)).counters ≡ raised_by d (slice_index_or order j 0) before
   pub rooms : HasRooms d kept
   pub ticked : Ticked all d order before final n old new
 
@@ -90,7 +93,8 @@ set_kept d kept p x r lt = get_or-set_same kept p x (none_raised 0) (omega (arit
 other_kept : (kept : List Raised) (p q : ℕ) (x : Raised) → p ≢ q → kept_of (slice_set kept p x) q ≡ kept_of kept q
 other_kept kept p q x ne = get_or-set_other kept p q x (none_raised 0) (λ e. ne (sym e))
 
-set_rooms : (d : Design) (kept : List Raised) (p : ℕ) (counters : List ℕ) → HasRooms d kept → p < length d.processes → HasRooms d (slice_set kept p (record (kept_of kept p) { counters = counters }))
+set_rooms : (d : Design) (kept : List Raised) (p : ℕ) (counters : List ℕ) → HasRooms d kept → p < length d.processes
+    → HasRooms d (slice_set kept p (record (kept_of kept p) { counters = counters }))
 set_rooms d kept p counters r lt = record {
   as_many = length-set kept p new ∙ r.as_many;
   rooms = λ q l. elim (cases_eq p q) [
@@ -198,11 +202,14 @@ module _ (d : Design) (valid : IsValidDesign d) (flows : Flows d) (order : List 
         x : Raised
         x = record (kept_of kept (slice_index_or order n 0)) { counters = raised_by d (slice_index_or order n 0) now }
 
-        kept_one : (j : ℕ) → j < n + 1 → j < length order → (kept_of (slice_set kept (slice_index_or order n 0) x) (slice_index_or order j 0)).counters ≡ raised_by d (slice_index_or order j 0) final
+        kept_one : (j : ℕ) → j < n + 1 → j < length order → (kept_of (slice_set kept (slice_index_or order n 0) x) (slice_index_or order j 0)).counters
+            ≡ raised_by d (slice_index_or order j 0) final
         kept_one j less l = elim (cases_lt j n) [
-          | inl before_it ↦ ap (λ k. k.counters) (other_kept kept (slice_index_or order n 0) (slice_index_or order j 0) x (apart_before j before_it)) ∙ m.done j before_it l
+          | inl before_it ↦ ap (λ k. k.counters) (other_kept kept (slice_index_or order n 0) (slice_index_or order j 0) x (apart_before j before_it))
+              ∙ m.done j before_it l
           | inr not_before ↦ (let e : n ≡ j = omega (arith, less, not_before) in
-              subst (λ j. (kept_of (slice_set kept (slice_index_or order n 0) x) (slice_index_or order j 0)).counters ≡ raised_by d (slice_index_or order j 0) final) e
+              subst (λ j. (kept_of (slice_set kept (slice_index_or order n 0) x) (slice_index_or order j 0)).counters
+              ≡ raised_by d (slice_index_or order j 0) final) e
               (ap (λ k. k.counters) (set_kept d kept (slice_index_or order n 0) x m.rooms there) ∙ raises))
         ]
 
@@ -265,7 +272,8 @@ module _ (d : Design) (valid : IsValidDesign d) (flows : Flows d) (order : List 
           driven = λ b hb dp. m.alike e n (omega arith) lt b hb dp;
         }
 
-        stays : (after d (slice_index_or order n 0) now ≡ now) × SameEffects (run_of (process_of d (slice_index_or order n 0)) before) (run_of (process_of d (slice_index_or order n 0)) now)
+        stays : (after d (slice_index_or order n 0) now
+            ≡ now) × SameEffects (run_of (process_of d (slice_index_or order n 0)) before) (run_of (process_of d (slice_index_or order n 0)) now)
         stays = idle_stays d (slice_index_or order n 0) before now valid flows hs m.of settling (still (slice_index_or order n 0) settling) is_idle
 
 -- ---- the end
@@ -274,7 +282,8 @@ pub at_end : (all : Bool) (d : Design) (order : List ℕ) (before final now : St
     → Middle all d order before final n now kept old new → now ≡ final
 at_end all d order before final now n kept old new past m = ap (λ xs. after_all d xs now) (sym (drop_all n order past)) ∙ m.ends
 
-pub all_raised : (all : Bool) (d : Design) (order : List ℕ) (before final now : State) (n : ℕ) (kept : List Raised) (old new : ℕ) → IsOrder d order → length order ≤ n
+pub all_raised : (all : Bool) (d : Design) (order : List ℕ) (before final now : State) (n : ℕ) (kept : List Raised) (old new : ℕ) → IsOrder d order
+    → length order ≤ n
     → Middle all d order before final n now kept old new → AreRaised d final kept
 all_raised all d order before final now n kept old new io past m p sp =
     let c : Contains order p = io.all p sp in

@@ -1,5 +1,6 @@
 -- Bits that are set to 0, word by word and span by span.
-use Rattle.std.proofs.Common.{◌≡◌, ◌≢◌, ◌∙◌, sym, ap, subst, refl, ℕ, zero, suc, ◌+◌, ◌-◌, ◌<◌, ◌≤◌, ◌/◌, ◌%◌, ◌^◌, ◌==◌, ◌&&◌, ◌||◌, Bool, true, false, cond, true≢false, List, [], ◌∷◌, ◌++◌, length, take, inl, inr, arith}
+use Rattle.std.proofs.Common.{◌≡◌, ◌≢◌, ◌∙◌, sym, ap, subst, refl, ℕ, zero, suc, ◌+◌, ◌-◌, ◌<◌, ◌≤◌, ◌/◌, ◌%◌, ◌^◌, ◌==◌, ◌&&◌, ◌||◌, Bool, true, false, cond}
+use Rattle.std.proofs.Common.{true≢false, List, [], ◌∷◌, ◌++◌, length, take, inl, inr, arith}
 use Rattle.std.specs.Prelude.{All, IsTrue, nat_le, nat_lt, Some, None, ℤ, pos, negsuc, ◌-ℤ◌, ◌+ℤ◌, int_le, int_lt, slice_index_or}
 use Rattle.std.specs.Int.{bit_at}
 use Rattle.std.specs.List.{list_any}
@@ -46,7 +47,8 @@ abbrev pub up_to : Span → ℕ → Span
 up_to s w = record s { word_end = w }
 
 -- a bit lies in the zeros for a word where it is one of that word and of the span's places
-place_is : (s : Span) (i : ℕ) → s.place ≤ s.place_end → (int_le (pos s.place) (pos i) && int_lt (pos i) (pos s.place +ℤ pos (s.place_end - s.place))) ≡ (nat_le s.place i && nat_lt i s.place_end)
+place_is : (s : Span) (i : ℕ) → s.place ≤ s.place_end → (int_le (pos s.place) (pos i) && int_lt (pos i) (pos s.place +ℤ pos (s.place_end - s.place)))
+    ≡ (nat_le s.place i && nat_lt i s.place_end)
 place_is s i le = ap (λ n. nat_le s.place i && nat_lt i n) (whole s.place s.place_end le)
   where
     whole : (a b : ℕ) → a ≤ b → a + (b - a) ≡ b
@@ -58,14 +60,18 @@ word_is w v = elim (cases_eq w v) [
   | inr ne ↦ false_from_ne_true (int_eq (pos w) (pos v)) (λ h. ne (cc ((signed_Decides (pos w) (pos v)).0 h))) ∙ sym (ne_eqb w v ne)
 ]
 
-pub zeros_have : (s : Span) (w : ℕ) (b : Bit) → s.place ≤ s.place_end → part_has (zeros_at s w) b ≡ (s.var == b.var && w == b.word && (nat_le s.place b.place && nat_lt b.place s.place_end))
-zeros_have s w b le = ap (λ c. s.var == b.var && int_eq (pos w) (pos b.word) && c) (place_is s b.place le) ∙ ap (λ c. s.var == b.var && c && (nat_le s.place b.place && nat_lt b.place s.place_end)) (word_is w b.word)
+pub zeros_have : (s : Span) (w : ℕ) (b : Bit) → s.place ≤ s.place_end
+    → part_has (zeros_at s w) b ≡ (s.var == b.var && w == b.word && (nat_le s.place b.place && nat_lt b.place s.place_end))
+zeros_have s w b le = ap (λ c. s.var == b.var && int_eq (pos w) (pos b.word) && c) (place_is s b.place le)
+    ∙ ap (λ c. s.var == b.var && c && (nat_le s.place b.place && nat_lt b.place s.place_end)) (word_is w b.word)
 
 -- one word more of a span
-pub one_more_word : (s : Span) (w : ℕ) (b : Bit) → s.word ≤ w → is_in (up_to s (w + 1)) b ≡ (is_in (up_to s w) b || (s.var == b.var && w == b.word && (nat_le s.place b.place && nat_lt b.place s.place_end)))
+pub one_more_word : (s : Span) (w : ℕ) (b : Bit) → s.word ≤ w
+    → is_in (up_to s (w + 1)) b ≡ (is_in (up_to s w) b || (s.var == b.var && w == b.word && (nat_le s.place b.place && nat_lt b.place s.place_end)))
 one_more_word s w b le = by (s.var == b.var) (nat_le s.place b.place) (nat_lt b.place s.place_end)
   where
-    by : (v p q : Bool) → (v && nat_le s.word b.word && nat_lt b.word (w + 1) && p && q) ≡ ((v && nat_le s.word b.word && nat_lt b.word w && p && q) || (v && w == b.word && (p && q)))
+    by : (v p q : Bool) → (v && nat_le s.word b.word && nat_lt b.word (w + 1) && p && q)
+        ≡ ((v && nat_le s.word b.word && nat_lt b.word w && p && q) || (v && w == b.word && (p && q)))
     by false p q = refl
     by true false q = rest (nat_le s.word b.word && nat_lt b.word (w + 1)) (nat_le s.word b.word && nat_lt b.word w) (w == b.word) q
       where
@@ -104,7 +110,8 @@ module _ (d : Design) (s : Span) (places : s.place ≤ s.place_end) where
             | inr from ↦ grind (arith, nat_tests)
           ]
 
-  pub next_word : (old new : State) (w : ℕ) → s.word ≤ w → AreCleared d (up_to s w ∷ []) old new → AreCleared d (up_to s (w + 1) ∷ []) old (written new (zeros_at s w))
+  pub next_word : (old new : State) (w : ℕ) → s.word ≤ w → AreCleared d (up_to s w ∷ []) old new
+      → AreCleared d (up_to s (w + 1) ∷ []) old (written new (zeros_at s w))
   next_word old new w le h = record {
     of = written_keeps d new (zeros_at s w) h.of;
     cleared = λ b hb t. by_bit b hb (part_has (zeros_at s w) b) refl (λ n. bit new b ≡ 0) (λ e. h.cleared b hb (or_false (is_in (up_to s w) b) ∙ first b t e));
@@ -136,8 +143,10 @@ module _ (d : Design) (s : Span) (places : s.place ≤ s.place_end) where
       second : (b : Bit) → has_bit (up_to s (w + 1) ∷ []) b ≡ false → part_has (zeros_at s w) b ≡ false
       second b f = or_neither (is_in (up_to s w) b) (part_has (zeros_at s w) b) (sym (more b) ∙ f)
 
-      by_bit : (b : Bit) → IsBitOf d b → (c : Bool) → part_has (zeros_at s w) b ≡ c → (P : ℕ → Type 0) → (part_has (zeros_at s w) b ≡ false → bit new b ≡ 0) → bit (written new (zeros_at s w)) b ≡ 0
-      by_bit b hb true e P k = bit_written d new (zeros_at s w) b h.of hb ∙ ap (λ c. cond c (bit_in 0 (pos b.place -ℤ pos s.place)) (bit new b)) e ∙ no_bit (pos b.place -ℤ pos s.place)
+      by_bit : (b : Bit) → IsBitOf d b → (c : Bool) → part_has (zeros_at s w) b ≡ c → (P : ℕ → Type 0) → (part_has (zeros_at s w) b ≡ false → bit new b ≡ 0)
+          → bit (written new (zeros_at s w)) b ≡ 0
+      by_bit b hb true e P k = bit_written d new (zeros_at s w) b h.of hb ∙ ap (λ c. cond c (bit_in 0 (pos b.place -ℤ pos s.place)) (bit new b)) e
+          ∙ no_bit (pos b.place -ℤ pos s.place)
       by_bit b hb false e P k = bit_written d new (zeros_at s w) b h.of hb ∙ ap (λ c. cond c (bit_in 0 (pos b.place -ℤ pos s.place)) (bit new b)) e ∙ k e
 
 -- a span without places has no bit
@@ -188,5 +197,7 @@ both_cleared d xs ys a b c h i = record {
 pub none_cleared : (d : Design) (s : State) → IsStateOf d s → AreCleared d [] s s
 none_cleared d s hs = record { of = hs; cleared = λ b hb t. absurd (true≢false (sym t)); kept = λ b hb f. refl }
 
-pub next_span : (d : Design) (spans : List Span) (i : ℕ) (x : Span) (a b c : State) → i < length spans → x ≡ slice_index_or spans i x → AreCleared d (take i spans) a b → AreCleared d (x ∷ []) b c → AreCleared d (take (i + 1) spans) a c
-next_span d spans i x a b c lt e h k = subst (λ xs. AreCleared d xs a c) (sym (take_more spans i x lt ∙ ap (λ y. take i spans ++ y ∷ []) (sym e))) (both_cleared d (take i spans) (x ∷ []) a b c h k)
+pub next_span : (d : Design) (spans : List Span) (i : ℕ) (x : Span) (a b c : State) → i < length spans → x ≡ slice_index_or spans i x
+    → AreCleared d (take i spans) a b → AreCleared d (x ∷ []) b c → AreCleared d (take (i + 1) spans) a c
+next_span d spans i x a b c lt e h k = subst (λ xs. AreCleared d xs a c) (sym (take_more spans i x lt
+    ∙ ap (λ y. take i spans ++ y ∷ []) (sym e))) (both_cleared d (take i spans) (x ∷ []) a b c h k)

@@ -1,5 +1,6 @@
 -- The start state: after the first n processes have been looked at.
-use Rattle.std.proofs.Common.{◌≡◌, ◌≢◌, ◌∙◌, sym, ap, subst, refl, ℕ, zero, suc, ◌+◌, ◌<◌, ◌≤◌, ◌||◌, ◌&&◌, ◌⊎◌, Bool, true, false, true≢false, List, [], ◌∷◌, ◌++◌, length, inl, inr, arith}
+use Rattle.std.proofs.Common.{◌≡◌, ◌≢◌, ◌∙◌, sym, ap, subst, refl, ℕ, zero, suc, ◌+◌, ◌<◌, ◌≤◌, ◌||◌, ◌&&◌, ◌⊎◌, Bool, true, false, true≢false, List, [], ◌∷◌}
+use Rattle.std.proofs.Common.{◌++◌, length, inl, inr, arith}
 use Rattle.std.specs.Prelude.{All, IsTrue, slice_index, slice_index_or, replicate}
 use Rattle.std.specs.Int.{bit_at}
 use Rattle.std.proofs.lemmas.Bool.{cases_Bool, cases_lt}
@@ -49,7 +50,8 @@ right_false : (x y : Bool) → (x || y) ≡ false → y ≡ false
 right_false true y f = absurd (true≢false f)
 right_false false y f = f
 
-pub one_settles : (d : Design) (n : ℕ) (u : Uses) (s mid t : State) → settles (kind_of d n) ≡ true → AreUsesOf d n u → AreCleared d u.sets s mid → AreCleared d u.defers mid t
+pub one_settles : (d : Design) (n : ℕ) (u : Uses) (s mid t : State) → settles (kind_of d n) ≡ true → AreUsesOf d n u → AreCleared d u.sets s mid
+    → AreCleared d u.defers mid t
     → IsStarting d n s → IsStarting d (n + 1) t
 one_settles d n u s mid t sn uses first second h =
     let c : AreCleared d (u.sets ++ u.defers) s t = both_cleared d u.sets u.defers s mid t first second in

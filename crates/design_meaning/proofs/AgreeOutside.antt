@@ -78,7 +78,8 @@ pub same_input : (d : Design) → IsValidDesign d → (s t : State) → inputs_i
 same_input d valid s t h v lt k =
     let c : Contains (input_vars d) v = (inputs_of d valid).all_inputs v lt k in
     let F : State → ℕ → ℕ = λ s v. slice_index (held s v).words 0 in
-    ap (F s) (sym c.2) ∙ sym (input_at (F s) (input_vars d) c.0 v c.1) ∙ ap (λ row. slice_index row c.0) h ∙ input_at (F t) (input_vars d) c.0 v c.1 ∙ ap (F t) c.2
+    ap (F s) (sym c.2) ∙ sym (input_at (F s) (input_vars d) c.0 v c.1) ∙ ap (λ row. slice_index row c.0) h ∙ input_at (F t) (input_vars d) c.0 v c.1
+    ∙ ap (F t) c.2
 
 pub single : (d : Design) → IsValidDesign d → (b : Bit) → IsBitOf d b → (var_of d b.var).kind ≡ var_kind.Input → b.word ≡ 0
 single d valid b hb k =

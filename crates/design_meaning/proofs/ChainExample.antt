@@ -107,7 +107,8 @@ settled r = record {
 -- ---- the order: b's process, then c's
 
 -- c's process drives bits of c alone, and b's reads bits of a alone
-apart : (v w i : ℕ) → IsTrue (drives chain 0 (record { var = v; word = w; place = i })) → IsTrue (reads_bit chain 1 (record { var = v; word = w; place = i })) → ⊥
+apart : (v w i : ℕ) → IsTrue (drives chain 0 (record { var = v; word = w; place = i }))
+    → IsTrue (reads_bit chain 1 (record { var = v; word = w; place = i })) → ⊥
 apart zero w i h r = lies (simp step_folds at h)
 apart (suc v) w i h r = lies (simp (step_folds, all_reads, ne_eqb 0 (suc v) (λ e. omega (arith, e))) at r)
 

@@ -1,5 +1,6 @@
 -- From a state of a design the edge leaves exactly one state.
-use Rattle.std.proofs.Common.{◌≡◌, ◌≢◌, ◌∙◌, sym, ap, subst, refl, ℕ, zero, suc, ◌<◌, ◌-◌, Bool, true, false, not, ◌||◌, ◌⊎◌, inl, inr, true≢false, List, [], ◌∷◌, map, length, arith}
+use Rattle.std.proofs.Common.{◌≡◌, ◌≢◌, ◌∙◌, sym, ap, subst, refl, ℕ, zero, suc, ◌<◌, ◌-◌, Bool, true, false, not, ◌||◌, ◌⊎◌, inl, inr, true≢false, List, []}
+use Rattle.std.proofs.Common.{◌∷◌, map, length, arith}
 use Rattle.std.proofs.lemmas.Bool.{cases_Bool, cases_eq, cases_lt, eq-eqb, ne_eqb}
 use Rattle.std.proofs.lemmas.Nat.Bits.{bit_at-lt}
 use Rattle.std.specs.Prelude.{◌==◌, if◌then◌else◌, All, slice_index, slice_index_or}

@@ -1,5 +1,6 @@
 -- A start and cycles one after the other are a counted run.
-use Rattle.std.proofs.Common.{◌≡◌, ◌≢◌, ◌∙◌, sym, ap, ap₂, subst, refl, ℕ, zero, suc, ◌+◌, ◌<◌, Bool, true, false, ◌||◌, List, [], ◌∷◌, ◌++◌, map, flat_map, length, replicate, Option, Some, None, append-nil, arith}
+use Rattle.std.proofs.Common.{◌≡◌, ◌≢◌, ◌∙◌, sym, ap, ap₂, subst, refl, ℕ, zero, suc, ◌+◌, ◌<◌, Bool, true, false, ◌||◌, List, [], ◌∷◌, ◌++◌, map, flat_map}
+use Rattle.std.proofs.Common.{length, replicate, Option, Some, None, append-nil, arith}
 use Rattle.std.specs.Prelude.{slice_index, if◌then◌else◌}
 use Rattle.design_tree.specs.declared.instrumented.Instrumented.{Instrumented}
 use Rattle.circuit_run.specs.States.{State}
@@ -113,7 +114,8 @@ length_zeros : (n : ℕ) → length {A = ℕ} (replicate n 0) ≡ n
 length_zeros zero = refl
 length_zeros (suc n) = ap suc (length_zeros n)
 
-add_up : (new first zero_count start notes changes : ℕ) → new ≡ first + (notes + changes) → first ≡ zero_count + start → zero_count ≡ 0 → new ≡ start + notes + changes
+add_up : (new first zero_count start notes changes : ℕ) → new ≡ first + (notes + changes) → first ≡ zero_count + start → zero_count ≡ 0
+    → new ≡ start + notes + changes
 add_up new first zero_count start notes changes a b c = omega (arith, a, b, c)
 
 pub cycles_are_runs : CyclesAreRuns

@@ -39,7 +39,8 @@ module _ (tells : BitsTellStates) (words : BitsTellWords) (keeps : RunsKeepState
       → Agrees d r row s → Agrees d r row (after_all d order s)
   agrees_after d order valid flows o r row s a = record {
     is_state = all_keep d valid flows tells keeps leaves alike reads order s a.is_state;
-    registers = λ b h. left b h.here (λ p sp dp. driven_none d is_comb refl b h.kept p (reg_comb (kind_of d p) sp (sym h.of_reg ∙ kinds d p b valid dp)) dp) ∙ a.registers b h;
+    registers = λ b h. left b h.here (λ p sp dp. driven_none d is_comb refl b h.kept p (reg_comb (kind_of d p) sp (sym h.of_reg ∙ kinds d p b valid dp)) dp)
+        ∙ a.registers b h;
     inputs = map_same (λ v. slice_index (held (after_all d order s) v).words 0) (λ v. slice_index (held s v).words 0) (input_vars d)
         (by_recursion (SameWord (after_all d order s) s) (input_vars d) same) ∙ a.inputs;
     undriven = λ b h. left b h.here (driven_none d settles refl b h.undriven) ∙ a.undriven b h;

@@ -28,7 +28,8 @@ value_for [] row v = 0
 value_for (x ∷ xs) [] v = 0
 value_for (x ∷ xs) (n ∷ ns) v = if x == v then n else value_for xs ns v
 
-value_fits : (width : ℕ → ℕ) (xs row : List ℕ) → ((k : ℕ) → k < length row → slice_index row k < 2 ^ width (slice_index xs k)) → (v : ℕ) → value_for xs row v < 2 ^ width v
+value_fits : (width : ℕ → ℕ) (xs row : List ℕ) → ((k : ℕ) → k < length row → slice_index row k < 2 ^ width (slice_index xs k)) → (v : ℕ)
+    → value_for xs row v < 2 ^ width v
 value_fits width [] row h v = pow_pos (width v)
 value_fits width (x ∷ xs) [] h v = pow_pos (width v)
 value_fits width (x ∷ xs) (n ∷ ns) h v = elim (cases_eq x v) [
@@ -59,7 +60,8 @@ words_at d r row v var_kind.Input = record { width = (var_of d v).width; words =
 abbrev base : Design → State → List ℕ → State
 base d r row = table (λ v. words_at d r row v (var_of d v).kind) (length d.vars)
 
-at_base : (d : Design) (r : State) (row : List ℕ) (v : ℕ) (k : VarKind) → v < length d.vars → (var_of d v).kind ≡ k → held (base d r row) v ≡ words_at d r row v k
+at_base : (d : Design) (r : State) (row : List ℕ) (v : ℕ) (k : VarKind) → v < length d.vars → (var_of d v).kind ≡ k
+    → held (base d r row) v ≡ words_at d r row v k
 at_base d r row v k lt e = at-table (λ v. words_at d r row v (var_of d v).kind) no_words (length d.vars) v lt ∙ ap (words_at d r row v) e
 
 zeros : (n k : ℕ) → slice_index (replicate n 0) k ≡ 0

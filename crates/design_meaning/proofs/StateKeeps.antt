@@ -37,7 +37,8 @@ written_keeps d s p h = record { as_many = length-set s p.var (word_written (hel
     each : (v : ℕ) → v < length d.vars → AreWordsOf (var_of d v) (held (written s p) v)
     each v lt = elim (cases_eq p.var v) [
       | inl e ↦ subst (AreWordsOf (var_of d v))
-          (sym (subst (λ w. held (written s p) w ≡ word_written (held s w) p.word p) e (get_or-set_same s p.var (word_written (held s p.var) p.word p) no_words (omega (arith, e, lt, h.as_many)))))
+          (sym (subst (λ w. held (written s p) w
+          ≡ word_written (held s w) p.word p) e (get_or-set_same s p.var (word_written (held s p.var) p.word p) no_words (omega (arith, e, lt, h.as_many)))))
           (word_keeps (var_of d v) (held s v) p.word p (h.each v lt))
       | inr ne ↦ subst (AreWordsOf (var_of d v)) (sym (get_or-set_other s p.var v (word_written (held s p.var) p.word p) no_words (λ e. ne (sym e)))) (h.each v lt)
     ]

@@ -101,7 +101,12 @@ valid = record {
     names = one (λ input. IsTrue (is_name input.name)) (record { var = 0; name = codes "d" }) refl;
     differ = no_pair (λ a b. a.name ≢ b.name) (record { var = 0; name = codes "d" });
   };
-  outputs = record { ascend = no_pair (λ m n. m < n) 1; stand = one (λ v. v < 2) 1 (omega arith); single = one (λ v. (var_of follower.design v).words ≡ 1) 1 refl };
+  outputs = record {
+    ascend = no_pair (λ m n. m < n) 1;
+    stand = one (λ v. v < 2) 1 (omega arith);
+    single = one (λ v. (var_of follower.design v).words
+        ≡ 1) 1 refl;
+  };
   processes = one (IsProcess follower.design 1) its_process process;
   toggles = record { ascend = no_pairs (λ a b. IsBefore (toggle_place a) (toggle_place b)); bits = none (λ t. IsBitOf follower.design (toggle_bit t)); counters = none (λ t. t.counter < 1) };
   points = record {

@@ -1,5 +1,6 @@
 -- The value of a well typed expression has its width and is below 2 ^ width.
-use Rattle.std.proofs.Common.{◌≡◌, ◌∙◌, sym, ap, subst, refl, ℕ, zero, suc, ◌+◌, ◌*◌, ◌-◌, ◌/◌, ◌%◌, ◌<◌, ◌≤◌, ◌^◌, ◌==◌, pow_pos, arith, Bool, true, false, ◌&&◌, ◌||◌, IsTrue, List, cond}
+use Rattle.std.proofs.Common.{◌≡◌, ◌∙◌, sym, ap, subst, refl, ℕ, zero, suc, ◌+◌, ◌*◌, ◌-◌, ◌/◌, ◌%◌, ◌<◌, ◌≤◌, ◌^◌, ◌==◌, pow_pos, arith, Bool, true, false}
+use Rattle.std.proofs.Common.{◌&&◌, ◌||◌, IsTrue, List, cond}
 use Rattle.std.specs.Prelude.{ℤ, pos, negsuc, slice_index, bit_and, bit_or, bit_xor, if◌then◌else◌, nat_lt, nat_le}
 use Rattle.std.proofs.lemmas.Grind.{common_steps}
 use Rattle.std.proofs.lemmas.Nat.{or_lt, xor_lt, mod_below}
@@ -64,7 +65,8 @@ unary_fits unary.ReduceOr a w h = (refl, flag_fits (nat_lt 0 a.number))
 unary_fits unary.ReduceXor a w h = (refl, mod_below _ (2 ^ 1) (pow_pos 1))
 
 -- all but the shifts have operands of equal widths
-binary_fits : (op : TypedBinary) (a b : Value) (v w : ℕ) → HasWidth w a → HasWidth v b → (is_shift op || w == v) ≡ true → HasWidth (binary_width op w) (binary_value op a b)
+binary_fits : (op : TypedBinary) (a b : Value) (v w : ℕ) → HasWidth w a → HasWidth v b → (is_shift op || w == v) ≡ true
+    → HasWidth (binary_width op w) (binary_value op a b)
 binary_fits binary.Add a b v w h k same = (h.0, rw (← h.0) (mod_below _ (2 ^ a.width) (pow_pos a.width)))
 binary_fits binary.Sub a b v w h k same = (h.0, rw (← h.0) (modulo_fits a.width _))
 binary_fits binary.Mul a b v w h k same = (h.0, rw (← h.0) (mod_below _ (2 ^ a.width) (pow_pos a.width)))
@@ -165,7 +167,8 @@ module _ (d : Design) (s : State) (h : IsStateOf d s) where
   choose test left right k0 k1 k2 = at_node (e.Choose test left right) _ _ _ (typed.fold-Choose Value ℤ (node_value s) index_position test left right) (typed.fold-Choose ℕ ℕ (node_width d) index_width test left right) (typed.para-Choose Bool Bool (node_typed d) index_typed test left right)
       (λ ok.
       let front : Bool = is_typed d test && width_of d test == 1 in
-      let three : (front && is_typed d left && is_typed d right) ≡ true = left_true (front && is_typed d left && is_typed d right) (same_width d left right) ok in
+      let three : (front && is_typed d left && is_typed d right)
+      ≡ true = left_true (front && is_typed d left && is_typed d right) (same_width d left right) ok in
       let two : (front && is_typed d left) ≡ true = left_true (front && is_typed d left) (is_typed d right) three in
       let same : width_of d right ≡ width_of d left = equal_widths (width_of d left) (width_of d right) (right_true (front && is_typed d left && is_typed d right) (same_width d left right) ok) in
       pick ((value_in s test).number == 0) (value_in s right) (value_in s left) (width_of d left)

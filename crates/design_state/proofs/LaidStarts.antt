@@ -1,5 +1,6 @@
 -- One variable more, behind those that are there.
-use Rattle.std.proofs.Common.{◌≡◌, ◌∙◌, ap, sym, subst, refl, ℕ, zero, suc, ◌+◌, ◌<◌, ◌≤◌, ◌^◌, List, [], ◌∷◌, ◌++◌, length, map, take, drop, replicate, true, pow_pos, inl, inr, arith}
+use Rattle.std.proofs.Common.{◌≡◌, ◌∙◌, ap, sym, subst, refl, ℕ, zero, suc, ◌+◌, ◌<◌, ◌≤◌, ◌^◌, List, [], ◌∷◌, ◌++◌, length, map, take, drop, replicate, true}
+use Rattle.std.proofs.Common.{pow_pos, inl, inr, arith}
 use Rattle.std.specs.Prelude.{All, slice_index_or}
 use Rattle.std.proofs.lemmas.Grind.{common_steps}
 use Rattle.std.proofs.lemmas.List.{length-append, length-map, length-replicate, take-append-le, drop-append-le, length-drop}
@@ -22,7 +23,8 @@ drop_all [] = refl
 drop_all (w ∷ ws) = drop_all ws
 
 -- a slot whose words are all that is left
-last_laid : (base : ℕ) (slot : Slot) (words : List ℕ) → slot.base ≡ base → 1 ≤ slot.width → slot.width ≤ 128 → length words ≡ slot.count → All (λ n. n < 2 ^ slot.width) words
+last_laid : (base : ℕ) (slot : Slot) (words : List ℕ) → slot.base ≡ base → 1 ≤ slot.width → slot.width ≤ 128 → length words ≡ slot.count
+    → All (λ n. n < 2 ^ slot.width) words
     → AreLaid base (slot ∷ []) words
 last_laid base slot words b some most many fit = (
   record {

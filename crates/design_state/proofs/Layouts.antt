@@ -85,14 +85,16 @@ pub stands : (base : ℕ) (slots : List Slot) (words : List ℕ) (v : ℕ) (none
 stands base [] words v none h lt = absurd (omega (arith, lt))
 stands base (slot ∷ slots) words zero none h lt = (0, omega (arith, h.0.begins), first base slot slots words h)
 stands base (slot ∷ slots) words (suc v) none h lt =
-    let k : (at : ℕ) × ((slice_index_or slots v none).base ≡ (base + slot.count) + at) × Stands (base + slot.count) slots (drop slot.count words) v at (slice_index_or slots v none)
+    let k : (at : ℕ) × ((slice_index_or slots v none).base
+    ≡ (base + slot.count) + at) × Stands (base + slot.count) slots (drop slot.count words) v at (slice_index_or slots v none)
     = stands (base + slot.count) slots (drop slot.count words) v none h.1 (omega (arith, lt)) in
     (slot.count + k.0, omega (arith, k.1), next base slot slots words v k.0 (slice_index_or slots v none) h k.2)
 
 pub stands_at_base : (slots : List Slot) (words : List ℕ) (v : ℕ) (none : Slot) → AreLaid 0 slots words → v < length slots
     → Stands 0 slots words v (slice_index_or slots v none).base (slice_index_or slots v none)
 stands_at_base slots words v none h lt =
-    let k : (at : ℕ) × ((slice_index_or slots v none).base ≡ 0 + at) × Stands 0 slots words v at (slice_index_or slots v none) = stands 0 slots words v none h lt in
+    let k : (at : ℕ) × ((slice_index_or slots v none).base
+    ≡ 0 + at) × Stands 0 slots words v at (slice_index_or slots v none) = stands 0 slots words v none h lt in
     let e : k.0 ≡ (slice_index_or slots v none).base = omega (arith, k.1) in
     subst (λ at. Stands 0 slots words v at (slice_index_or slots v none)) e k.2
 

@@ -52,7 +52,8 @@ module _ (s : State) where
 
   pub part_width : (w : ℕ) (of : Typed) (at : Index) → IsTypedIn s (e.Part w of at) → (1 ≤ w) × (w ≤ 128)
   part_width w of at h =
-      let ok : (is_width w && is_typed h.design of && is_index h.design at) ≡ true = sym (typed.para-Part Bool Bool (node_typed h.design) index_typed w of at) ∙ h.holds in
+      let ok : (is_width w && is_typed h.design of && is_index h.design at)
+      ≡ true = sym (typed.para-Part Bool Bool (node_typed h.design) index_typed w of at) ∙ h.holds in
       let wide : is_width w ≡ true = left_true (is_width w) (is_typed h.design of) (left_true (is_width w && is_typed h.design of) (is_index h.design at) ok) in
       grind (arith, common_steps)
 
@@ -98,7 +99,8 @@ module _ (s : State) where
   pub truncate_width : (w : ℕ) (of : Typed) (v n : ℕ) → IsTypedIn s (e.Truncate w of) → value_in s of ≡ of_width v n → (1 ≤ w) × (w ≤ v)
   truncate_width w of v n h is =
       let d : Design = h.design in
-      let ok : (is_width w && is_typed d of && nat_le w (width_of d of)) ≡ true = sym (typed.para-Truncate Bool Bool (node_typed d) index_typed w of) ∙ h.holds in
+      let ok : (is_width w && is_typed d of && nat_le w (width_of d of)) ≡ true = sym (typed.para-Truncate Bool Bool (node_typed d) index_typed w of)
+      ∙ h.holds in
       let both : (is_width w && is_typed d of) ≡ true = left_true (is_width w && is_typed d of) (nat_le w (width_of d of)) ok in
       let wide : is_width w ≡ true = left_true (is_width w) (is_typed d of) both in
       let e : width_of d of ≡ v = operand_width d of v n h.of (right_true (is_width w) (is_typed d of) both) is in
@@ -112,7 +114,8 @@ module _ (s : State) where
   abbrev OneWidth : Design → TypedBinary → Typed → Typed → Bool
   OneWidth d op left right = is_shift op || same_width d left right
 
-  binary_ok : (d : Design) (op : TypedBinary) (left right : Typed) → is_typed d (e.Binary op left right) ≡ true → (is_typed d left && is_typed d right && OneWidth d op left right) ≡ true
+  binary_ok : (d : Design) (op : TypedBinary) (left right : Typed) → is_typed d (e.Binary op left right) ≡ true
+      → (is_typed d left && is_typed d right && OneWidth d op left right) ≡ true
   binary_ok d op left right ok = sym (typed.para-Binary Bool Bool (node_typed d) index_typed op left right) ∙ ok
 
   pub binary_left : (op : TypedBinary) (left right : Typed) → IsTypedIn s (e.Binary op left right) → IsTypedIn s left
@@ -138,7 +141,8 @@ module _ (s : State) where
       shifts_or (is_shift op) v w (subst (λ k. (is_shift op || k == w) ≡ true) x
       (subst (λ k. (is_shift op || width_of d left == k) ≡ true) y (right_true (is_typed d left && is_typed d right) (OneWidth d op left right) ok)))
 
-  join_ok : (d : Design) (high low : Typed) → is_typed d (e.Join high low) ≡ true → (is_typed d high && is_typed d low && is_width (width_of d high + width_of d low)) ≡ true
+  join_ok : (d : Design) (high low : Typed) → is_typed d (e.Join high low) ≡ true
+      → (is_typed d high && is_typed d low && is_width (width_of d high + width_of d low)) ≡ true
   join_ok d high low ok = sym (typed.para-Join Bool Bool (node_typed d) index_typed high low) ∙ ok
 
   pub join_high : (high low : Typed) → IsTypedIn s (e.Join high low) → IsTypedIn s high
@@ -157,7 +161,8 @@ module _ (s : State) where
       let both : (is_typed d high && is_typed d low) ≡ true = left_true (is_typed d high && is_typed d low) (is_width (width_of d high + width_of d low)) ok in
       let x : width_of d high ≡ v = operand_width d high v n h.of (left_true (is_typed d high) (is_typed d low) both) a in
       let y : width_of d low ≡ w = operand_width d low w m h.of (right_true (is_typed d high) (is_typed d low) both) b in
-      let wide : is_width (width_of d high + width_of d low) ≡ true = right_true (is_typed d high && is_typed d low) (is_width (width_of d high + width_of d low)) ok in
+      let wide : is_width (width_of d high + width_of d low)
+      ≡ true = right_true (is_typed d high && is_typed d low) (is_width (width_of d high + width_of d low)) ok in
       grind (arith, common_steps)
 
   repeat_ok : (d : Design) (count : ℕ) (of : Typed) → is_typed d (e.Repeat count of) ≡ true → (is_typed d of && is_width (count * width_of d of)) ≡ true

@@ -1,5 +1,6 @@
 -- Ranges by their bounds.
-use Rattle.std.proofs.Common.{◌≡◌, ◌∙◌, sym, ap, refl, subst, ℕ, ◌+◌, ◌-◌, max, min, Bool, true, false, ◌||◌, ◌&&◌, cond, nat_lt, Option, Some, None, Result, Ok, Err}
+use Rattle.std.proofs.Common.{◌≡◌, ◌∙◌, sym, ap, refl, subst, ℕ, ◌+◌, ◌-◌, max, min, Bool, true, false, ◌||◌, ◌&&◌, cond, nat_lt, Option, Some, None, Result}
+use Rattle.std.proofs.Common.{Ok, Err}
 use Rattle.vlog_tree.specs.declared.expression.RangeExpr.{RangeExpr}
 use Rattle.scope_meaning.specs.Constants.{Names, and_then, option_both}
 use Rattle.scope_meaning.specs.Ranges as ranges
@@ -158,9 +159,11 @@ vector_by : (known : Names) (r : RangeExpr) (h l : ℕ) → facts known r.high �
     → (b c : Bool) → nat_lt h l ≡ b → nat_lt 127 (h - l) ≡ c → IsVector known r (by_rules h l b c)
 vector_by known r h l f g true c e k = at_facts true _ _ _ _ f g ∙ ap (λ x. first_rule false false (x && true) (nat_lt 127 (h - l) && true)) e
 vector_by known r h l f g false true e k =
-    at_facts true _ _ _ _ f g ∙ ap (λ x. first_rule false false (x && true) (nat_lt 127 (h - l) && true)) e ∙ ap (λ x. first_rule false false false (x && true)) k
+    at_facts true _ _ _ _ f g ∙ ap (λ x. first_rule false false (x && true) (nat_lt 127 (h - l) && true)) e
+    ∙ ap (λ x. first_rule false false false (x && true)) k
 vector_by known r h l f g false false e k = (
-  at_facts true _ _ _ _ f g ∙ ap (λ x. first_rule false false (x && true) (nat_lt 127 (h - l) && true)) e ∙ ap (λ x. first_rule false false false (x && true)) k,
+  at_facts true _ _ _ _ f g ∙ ap (λ x. first_rule false false (x && true) (nat_lt 127 (h - l) && true)) e
+      ∙ ap (λ x. first_rule false false false (x && true)) k,
   ap (λ (x : Facts). and_then x.bound (λ high. and_then (ranges.bound known r.low) (ranges.span_between high))) f
       ∙ ap (λ (x : Facts). and_then x.bound (ranges.span_between h)) g
       ∙ ap (λ x. cond (x || nat_lt 127 (h - l)) None (Some (span_of (record { width = h - l + 1; low = l })))) e

@@ -28,7 +28,8 @@ use Rattle.flat_design.specs.Effects.{Room, room_for, sum_of}
 use Rattle.flat_design.specs.InDesign.{mentions_in}
 use Rattle.flat_design.specs.Needed.{arm_mentions_in, arm_at}
 use Rattle.flat_design.proofs.Rooms.{room_parts, room_append, no_room, sum_more, none_sum}
-use Rattle.flat_design.proofs.StepsIn.{if_formed, case_formed, if_mentions, case_mentions, arm_mentions_is, set_mentions, later_mentions, count_mentions, show_mentions, assign_mentions}
+use Rattle.flat_design.proofs.StepsIn.{if_formed, case_formed, if_mentions, case_mentions, arm_mentions_is, set_mentions, later_mentions, count_mentions}
+use Rattle.flat_design.proofs.StepsIn.{show_mentions, assign_mentions}
 
 -- ---- pieces
 
@@ -63,7 +64,8 @@ module _ (d : Design) where
 
   none_of_pieces : (ps : List Piece) → room_for d (flat_map piece_mentions ps) ≡ no_room
   none_of_pieces [] = refl
-  none_of_pieces (p ∷ ps) = room_append d (piece_mentions p) (flat_map piece_mentions ps) ∙ ap (λ a. sum_of a (room_for d (flat_map piece_mentions ps))) (one p) ∙ none_sum _ ∙ none_of_pieces ps
+  none_of_pieces (p ∷ ps) = room_append d (piece_mentions p) (flat_map piece_mentions ps)
+      ∙ ap (λ a. sum_of a (room_for d (flat_map piece_mentions ps))) (one p) ∙ none_sum _ ∙ none_of_pieces ps
     where
       one : (p : Piece) → room_for d (piece_mentions p) ≡ no_room
       one (piece.Text bytes) = refl
@@ -108,18 +110,21 @@ module _ (d : Design) where
   two_blocks x ms ns = none_of_expression x (ms ++ ns) ∙ room_append d ms ns
 
   pub if_need : (k : ℕ) (test : Typed) (left right : List Step) (a b : Room) → is_step d k (step.If test left right) ≡ true
-      → (list_all (is_step d k) left ≡ true → a ≡ room_for d (flat_map mentions_in left)) → (list_all (is_step d k) right ≡ true → b ≡ room_for d (flat_map mentions_in right))
+      → (list_all (is_step d k) left ≡ true → a ≡ room_for d (flat_map mentions_in left)) → (list_all (is_step d k) right ≡ true
+      → b ≡ room_for d (flat_map mentions_in right))
       → sum_of a b ≡ room_for d (mentions_in (step.If test left right))
   if_need k test left right a b ok l r =
       let front : Bool = is_typed d test && width_of d test == 1 in
       let ok' : (front && list_all (is_step d k) left && list_all (is_step d k) right) ≡ true = sym (if_formed d k test left right) ∙ ok in
-      let okl : list_all (is_step d k) left ≡ true = right_true front (list_all (is_step d k) left) (left_true (front && list_all (is_step d k) left) (list_all (is_step d k) right) ok') in
+      let okl : list_all (is_step d k) left
+      ≡ true = right_true front (list_all (is_step d k) left) (left_true (front && list_all (is_step d k) left) (list_all (is_step d k) right) ok') in
       let okr : list_all (is_step d k) right ≡ true = right_true (front && list_all (is_step d k) left) (list_all (is_step d k) right) ok' in
       ap (λ x. sum_of x b) (l okl) ∙ ap (sum_of (room_for d (flat_map mentions_in left))) (r okr)
       ∙ sym (ap (room_for d) (if_mentions test left right) ∙ two_blocks test (flat_map mentions_in left) (flat_map mentions_in right))
 
   pub case_need : (k : ℕ) (on : Typed) (arms : List StepArm) (rest : List Step) (a b : Room) → is_step d k (step.Case on arms rest) ≡ true
-      → (list_all (arm_at d k (width_of d on)) arms ≡ true → a ≡ room_for d (flat_map arm_mentions_in arms)) → (list_all (is_step d k) rest ≡ true → b ≡ room_for d (flat_map mentions_in rest))
+      → (list_all (arm_at d k (width_of d on)) arms ≡ true → a ≡ room_for d (flat_map arm_mentions_in arms)) → (list_all (is_step d k) rest ≡ true
+      → b ≡ room_for d (flat_map mentions_in rest))
       → sum_of a b ≡ room_for d (mentions_in (step.Case on arms rest))
   case_need k on arms rest a b ok l r =
       let la : Bool = list_all (arm_at d k (width_of d on)) arms in
@@ -134,7 +139,8 @@ module _ (d : Design) where
       ∙ ap (λ a. sum_of a (room_for d (flat_map mentions_in arm.body))) (none_of_items arm.items) ∙ none_sum (room_for d (flat_map mentions_in arm.body)))
 
   -- one more of a list
-  pub one_need : {X : Type 0} (f : X → List Mention) (x : X) (xs : List X) (before more all after : Room) → sum_of before (room_for d (flat_map f (x ∷ xs))) ≡ all
+  pub one_need : {X : Type 0} (f : X → List Mention) (x : X) (xs : List X) (before more all after : Room)
+      → sum_of before (room_for d (flat_map f (x ∷ xs))) ≡ all
       → more ≡ room_for d (f x) → after ≡ sum_of before more → sum_of after (room_for d (flat_map f xs)) ≡ all
   one_need f x xs before more all after inv m a =
       ap (λ r. sum_of r (room_for d (flat_map f xs))) (a ∙ ap (sum_of before) m) ∙ sum_more before (room_for d (f x)) (room_for d (flat_map f xs))

@@ -67,17 +67,20 @@ all_formed : (d : Design) (k : ℕ) (xs : List Step) → All (λ x. IsTrue (is_s
 all_formed d k [] h = refl
 all_formed d k (x ∷ xs) h = and_from (is_step d k x) (list_all (is_step d k) xs) (h 0 x (omega arith)) (all_formed d k xs (λ i e lt. h (suc i) e (omega (arith, lt))))
 
-process_is : (d : Design) (p : Process) → (v : IsValidDesign d) → (i : ℕ) → i < length d.processes → p ≡ slice_index_or d.processes i p → IsProcess d v.0.counters p
+process_is : (d : Design) (p : Process) → (v : IsValidDesign d) → (i : ℕ) → i < length d.processes → p ≡ slice_index_or d.processes i p
+    → IsProcess d v.0.counters p
 process_is d p v i lt is =
     let all : All (IsProcess d v.0.counters) d.processes = subst (λ x. All (IsProcess x v.0.counters) x.processes) v.2 v.1.processes in
     subst (IsProcess d v.0.counters) (sym is) (all i p lt)
 
 -- the steps of a process of a valid design are well formed
-pub process_formed : (d : Design) (p : Process) → (v : IsValidDesign d) → (i : ℕ) → i < length d.processes → p ≡ slice_index_or d.processes i p → list_all (is_step d v.0.counters) p.body ≡ true
+pub process_formed : (d : Design) (p : Process) → (v : IsValidDesign d) → (i : ℕ) → i < length d.processes → p ≡ slice_index_or d.processes i p
+    → list_all (is_step d v.0.counters) p.body ≡ true
 process_formed d p v i lt is = all_formed d v.0.counters p.body (process_is d p v i lt is).formed
 
 -- it can be run where there is room
-pub process_can : (d : Design) (s : State) (e : Effects) (p : Process) → IsValidDesign d → IsStateOf d s → (i : ℕ) → i < length d.processes → p ≡ slice_index_or d.processes i p
+pub process_can : (d : Design) (s : State) (e : Effects) (p : Process) → IsValidDesign d → IsStateOf d s → (i : ℕ) → i < length d.processes
+    → p ≡ slice_index_or d.processes i p
     → HasRoom e (room_of d p) → CanRun s e p.body
 process_can d s e p valid of i lt is room =
     record {
@@ -90,7 +93,8 @@ process_can d s e p valid of i lt is room =
     }
 
 -- with just the room that it needs
-pub process_steps : (d : Design) (s : State) (p : Process) → IsValidDesign d → IsStateOf d s → (i : ℕ) → i < length d.processes → p ≡ slice_index_or d.processes i p → StepsIn s p.body
+pub process_steps : (d : Design) (s : State) (p : Process) → IsValidDesign d → IsStateOf d s → (i : ℕ) → i < length d.processes
+    → p ≡ slice_index_or d.processes i p → StepsIn s p.body
 process_steps d s p valid of i lt is =
     (empty (room_of d p), process_can d s (empty (room_of d p)) p valid of i lt is (record { for_updates = omega arith; for_bytes = omega arith; for_counters = omega arith }))
 
@@ -102,5 +106,7 @@ rooms d ps = record {
   counters = total (map (λ p. (room_of d p).counters) ps);
 }
 
-pub next_process : (d : Design) (p : Process) (ps : List Process) (before more all after : Room) → sum_of before (rooms d (p ∷ ps)) ≡ all → more ≡ room_of d p → after ≡ sum_of before more → sum_of after (rooms d ps) ≡ all
-next_process d p ps before more all after inv m a = ap (λ r. sum_of r (rooms d ps)) (a ∙ ap (sum_of before) m) ∙ sum_more before (room_of d p) (rooms d ps) ∙ inv
+pub next_process : (d : Design) (p : Process) (ps : List Process) (before more all after : Room) → sum_of before (rooms d (p ∷ ps)) ≡ all
+    → more ≡ room_of d p → after ≡ sum_of before more → sum_of after (rooms d ps) ≡ all
+next_process d p ps before more all after inv m a = ap (λ r. sum_of r (rooms d ps)) (a ∙ ap (sum_of before) m) ∙ sum_more before (room_of d p) (rooms d ps)
+    ∙ inv

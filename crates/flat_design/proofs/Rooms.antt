@@ -31,7 +31,8 @@ pub record Fits (small big : Room) : Type 0 where
   pub counters : small.counters ≤ big.counters
 
 pub room_parts : (a b : Room) → a.updates ≡ b.updates → a.bytes ≡ b.bytes → a.counters ≡ b.counters → a ≡ b
-room_parts a b e f g = ap (λ u. record { updates = u; bytes = a.bytes; counters = a.counters }) e ∙ ap (λ u. record { updates = b.updates; bytes = u; counters = a.counters }) f
+room_parts a b e f g = ap (λ u. record { updates = u; bytes = a.bytes; counters = a.counters }) e
+    ∙ ap (λ u. record { updates = b.updates; bytes = u; counters = a.counters }) f
     ∙ ap (λ u. record { updates = b.updates; bytes = b.bytes; counters = u }) g
 
 abbrev pub no_room : Room
@@ -75,7 +76,8 @@ module _ (d : Design) where
   within_right o xs ys h = let f : Fits (room_for d ys) (room_for d (xs ++ ys)) = right_fits xs ys in
       record { updates = omega (arith, h.updates, f.updates); bytes = omega (arith, h.bytes, f.bytes); counters = omega (arith, h.counters, f.counters) }
 
-  pub within_both : (a b : Outcome ℕ) (xs ys : List Mention) → IsWithin a (room_for d xs) → IsWithin b (room_for d ys) → IsWithin (joined a b) (room_for d (xs ++ ys))
+  pub within_both : (a b : Outcome ℕ) (xs ys : List Mention) → IsWithin a (room_for d xs) → IsWithin b (room_for d ys)
+      → IsWithin (joined a b) (room_for d (xs ++ ys))
   within_both a b xs ys h k = subst (IsWithin (joined a b)) (sym (room_append xs ys)) (record {
     updates = omega (arith, h.updates, k.updates, length-append a.updates b.updates);
     bytes = omega (arith, h.bytes, k.bytes, length-append a.text b.text);
@@ -83,7 +85,8 @@ module _ (d : Design) where
   })
 
   -- after one run there is room for the rest
-  pub room_after : (e : Effects) (o : Outcome ℕ) (xs ys : List Mention) → IsWithin o (room_for d xs) → HasRoom e (room_for d (xs ++ ys)) → HasRoom (added e o) (room_for d ys)
+  pub room_after : (e : Effects) (o : Outcome ℕ) (xs ys : List Mention) → IsWithin o (room_for d xs) → HasRoom e (room_for d (xs ++ ys))
+      → HasRoom (added e o) (room_for d ys)
   room_after e o xs ys w h =
       let k : HasRoom e (sum_of (room_for d xs) (room_for d ys)) = subst (HasRoom e) (room_append xs ys) h in
       record {

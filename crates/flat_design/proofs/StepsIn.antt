@@ -1,5 +1,6 @@
 -- What is known of steps that can be run, and of the steps inside them.
-use Rattle.std.proofs.Common.{◌≡◌, ◌∙◌, ap, sym, subst, refl, ℕ, zero, suc, ◌+◌, ◌<◌, ◌≤◌, ◌==◌, Bool, true, ◌&&◌, List, [], ◌∷◌, ◌++◌, append-nil, length, map, slice_index_or, arith}
+use Rattle.std.proofs.Common.{◌≡◌, ◌∙◌, ap, sym, subst, refl, ℕ, zero, suc, ◌+◌, ◌<◌, ◌≤◌, ◌==◌, Bool, true, ◌&&◌, List, [], ◌∷◌, ◌++◌, append-nil, length, map}
+use Rattle.std.proofs.Common.{slice_index_or, arith}
 use Rattle.std.specs.Prelude.{nat_lt, flat_map, ◌^◌}
 use Rattle.std.specs.List.{list_all}
 use Rattle.std.proofs.lemmas.Grind.{common_steps}
@@ -18,7 +19,8 @@ use Rattle.design_meaning.specs.Widths.{width_of, widths_named}
 use Rattle.design_meaning.specs.WellTyped.{is_typed, is_target, is_piece}
 use Rattle.design_meaning.specs.WellFormed.{is_step, is_item, step_formed, arm_formed, all_of}
 use Rattle.design_meaning.specs.Writes.{target_widths}
-use Rattle.design_meaning.specs.Mentions.{Mention, expression, destination, shown, counted, step_mentions, arm_mentions, concat_all, item_mentions, mention_targets, piece_mentions}
+use Rattle.design_meaning.specs.Mentions.{Mention, expression, destination, shown, counted, step_mentions, arm_mentions, concat_all, item_mentions}
+use Rattle.design_meaning.specs.Mentions.{mention_targets, piece_mentions}
 use Rattle.design_meaning.proofs.ListLaws.{left_true, right_true, and_from, all_map}
 use Rattle.design_meaning.proofs.StepFolds as steps
 use Rattle.design_meaning.proofs.ValuesFit.{fits}
@@ -44,22 +46,29 @@ pub flat : {X Y : Type 0} (f : X → List Y) (xs : List X) → concat_all (map f
 flat f [] = refl
 flat f (x ∷ xs) = ap (λ l. f x ++ l) (flat f xs)
 
-pub if_mentions : (test : Typed) (left right : List Step) → mentions_in (step.If test left right) ≡ expression test ∷ flat_map mentions_in left ++ flat_map mentions_in right
-if_mentions test left right = steps.fold-If (List Mention) (List Mention) step_mentions arm_mentions test left right ∙ rw (flat mentions_in left, flat mentions_in right) refl
+pub if_mentions : (test : Typed) (left right : List Step) → mentions_in (step.If test left right) ≡ expression test ∷ flat_map mentions_in left
+    ++ flat_map mentions_in right
+if_mentions test left right = steps.fold-If (List Mention) (List Mention) step_mentions arm_mentions test left right
+    ∙ rw (flat mentions_in left, flat mentions_in right) refl
 
-pub case_mentions : (on : Typed) (arms : List StepArm) (rest : List Step) → mentions_in (step.Case on arms rest) ≡ expression on ∷ flat_map arm_mentions_in arms ++ flat_map mentions_in rest
-case_mentions on arms rest = steps.fold-Case (List Mention) (List Mention) step_mentions arm_mentions on arms rest ∙ rw (flat arm_mentions_in arms, flat mentions_in rest) refl
+pub case_mentions : (on : Typed) (arms : List StepArm) (rest : List Step)
+    → mentions_in (step.Case on arms rest) ≡ expression on ∷ flat_map arm_mentions_in arms ++ flat_map mentions_in rest
+case_mentions on arms rest = steps.fold-Case (List Mention) (List Mention) step_mentions arm_mentions on arms rest
+    ∙ rw (flat arm_mentions_in arms, flat mentions_in rest) refl
 
 pub arm_mentions_is : (arm : StepArm) → arm_mentions_in arm ≡ flat_map item_mentions arm.items ++ flat_map mentions_in arm.body
-arm_mentions_is arm = fold_out-StepArm (List Mention) (List Mention) step_mentions arm_mentions arm ∙ ap (λ l. flat_map item_mentions arm.items ++ l) (flat mentions_in arm.body)
+arm_mentions_is arm = fold_out-StepArm (List Mention) (List Mention) step_mentions arm_mentions arm
+    ∙ ap (λ l. flat_map item_mentions arm.items ++ l) (flat mentions_in arm.body)
 
 pub if_formed : (d : Design) (k : ℕ) (test : Typed) (left right : List Step)
     → is_step d k (step.If test left right) ≡ (is_typed d test && width_of d test == 1 && list_all (is_step d k) left && list_all (is_step d k) right)
-if_formed d k test left right = steps.fold-If Bool (ℕ → Bool) (step_formed d k) (arm_formed d) test left right ∙ rw (all_formed d k left, all_formed d k right) refl
+if_formed d k test left right = steps.fold-If Bool (ℕ → Bool) (step_formed d k) (arm_formed d) test left right
+    ∙ rw (all_formed d k left, all_formed d k right) refl
 
 arm_formed_is : (d : Design) (k : ℕ) (arm : StepArm) (w : ℕ) → formed_arm d k arm w ≡ arm_at d k w arm
 unfolding formed_arm
-arm_formed_is d k arm w = ap (λ f. f w) (fold_out-StepArm Bool (ℕ → Bool) (step_formed d k) (arm_formed d) arm) ∙ ap (λ b. list_all (is_item d w) arm.items && b) (all_formed d k arm.body)
+arm_formed_is d k arm w = ap (λ f. f w) (fold_out-StepArm Bool (ℕ → Bool) (step_formed d k) (arm_formed d) arm)
+    ∙ ap (λ b. list_all (is_item d w) arm.items && b) (all_formed d k arm.body)
 
 arms_formed : (d : Design) (k : ℕ) (arms : List StepArm) (w : ℕ) → list_all (λ arm. arm w) (map (formed_arm d k) arms) ≡ list_all (arm_at d k w) arms
 arms_formed d k [] w = refl
@@ -68,7 +77,8 @@ arms_formed d k (arm ∷ arms) w = rw (arm_formed_is d k arm w, arms_formed d k 
 pub case_formed : (d : Design) (k : ℕ) (on : Typed) (arms : List StepArm) (rest : List Step)
     → is_step d k (step.Case on arms rest) ≡ (is_typed d on && list_all (arm_at d k (width_of d on)) arms && list_all (is_step d k) rest)
 unfolding formed_arm
-case_formed d k on arms rest = steps.fold-Case Bool (ℕ → Bool) (step_formed d k) (arm_formed d) on arms rest ∙ rw (arms_formed d k arms (width_of d on), all_formed d k rest) refl
+case_formed d k on arms rest = steps.fold-Case Bool (ℕ → Bool) (step_formed d k) (arm_formed d) on arms rest
+    ∙ rw (arms_formed d k arms (width_of d on), all_formed d k rest) refl
 
 -- ---- simple steps
 
@@ -186,7 +196,8 @@ module _ (s : State) (e : Effects) where
       → (is_typed h.design on && list_all (arm_at h.design h.counters (width_of h.design on)) arms) ≡ true
   case_front on arms rest h = left_true (is_typed h.design on && list_all (arm_at h.design h.counters (width_of h.design on)) arms) (list_all (is_step h.design h.counters) rest) (case_ok on arms rest h)
 
-  case_arms : (on : Typed) (arms : List StepArm) (rest : List Step) (h : CanRun s e (step.Case on arms rest ∷ [])) → list_all (arm_at h.design h.counters (width_of h.design on)) arms ≡ true
+  case_arms : (on : Typed) (arms : List StepArm) (rest : List Step) (h : CanRun s e (step.Case on arms rest ∷ []))
+      → list_all (arm_at h.design h.counters (width_of h.design on)) arms ≡ true
   case_arms on arms rest h = right_true (is_typed h.design on) (list_all (arm_at h.design h.counters (width_of h.design on)) arms) (case_front on arms rest h)
 
   pub case_on : (on : Typed) (arms : List StepArm) (rest : List Step) → CanRun s e (step.Case on arms rest ∷ []) → IsTypedIn s on
@@ -225,7 +236,8 @@ module _ (s : State) (e : Effects) where
     room = room_right h.design e (flat_map arm_mentions_in arms) (flat_map mentions_in rest) (case_room on arms rest h);
   }
 
-  at_arm : (d : Design) (k w : ℕ) (arms : List StepArm) (i : ℕ) (none : StepArm) → i < length arms → list_all (arm_at d k w) arms ≡ true → HasRoom e (room_for d (flat_map arm_mentions_in arms))
+  at_arm : (d : Design) (k w : ℕ) (arms : List StepArm) (i : ℕ) (none : StepArm) → i < length arms → list_all (arm_at d k w) arms ≡ true
+      → HasRoom e (room_for d (flat_map arm_mentions_in arms))
       → (list_all (is_step d k) (slice_index_or arms i none).body ≡ true) × HasRoom e (room_for d (flat_map mentions_in (slice_index_or arms i none).body))
   at_arm d k w [] i none lt ok room = absurd (omega (arith, lt))
   at_arm d k w (arm ∷ arms) zero none lt ok room =
@@ -237,21 +249,26 @@ module _ (s : State) (e : Effects) where
   at_arm d k w (arm ∷ arms) (suc i) none lt ok room =
       at_arm d k w arms i none (omega (arith, lt)) (right_true (arm_at d k w arm) (list_all (arm_at d k w) arms) ok) (room_right d e (arm_mentions_in arm) (flat_map arm_mentions_in arms) room)
 
-  pub case_arm : (on : Typed) (arms : List StepArm) (rest : List Step) (i : ℕ) (none : StepArm) → i < length arms → CanRun s e (step.Case on arms rest ∷ []) → CanRun s e (slice_index_or arms i none).body
+  pub case_arm : (on : Typed) (arms : List StepArm) (rest : List Step) (i : ℕ) (none : StepArm) → i < length arms → CanRun s e (step.Case on arms rest ∷ [])
+      → CanRun s e (slice_index_or arms i none).body
   case_arm on arms rest i none lt h =
       let d : Design = h.design in
-      let k : (list_all (is_step d h.counters) (slice_index_or arms i none).body ≡ true) × HasRoom e (room_for d (flat_map mentions_in (slice_index_or arms i none).body))
+      let k : (list_all (is_step d h.counters) (slice_index_or arms i none).body
+      ≡ true) × HasRoom e (room_for d (flat_map mentions_in (slice_index_or arms i none).body))
       = at_arm d h.counters (width_of d on) arms i none lt (case_arms on arms rest h) (room_left d e (flat_map arm_mentions_in arms) (flat_map mentions_in rest) (case_room on arms rest h)) in
       record { design = d; counters = h.counters; of = h.of; variables = h.variables; formed = k.0; room = k.1 }
 
   -- ---- assignments
 
-  assigned : (d : Design) (targets : List Target) (value : Typed) → (list_all (is_target d) targets && is_typed d value && widths_named d targets == width_of d value) ≡ true
+  assigned : (d : Design) (targets : List Target) (value : Typed)
+      → (list_all (is_target d) targets && is_typed d value && widths_named d targets == width_of d value) ≡ true
       → IsStateOf d s → (AreTargetsIn s targets) × (IsTypedIn s value) × ((w n : ℕ) → value_in s value ≡ of_width w n → target_widths s targets ≡ w)
   assigned d targets value ok of =
-      let front : (list_all (is_target d) targets && is_typed d value) ≡ true = left_true (list_all (is_target d) targets && is_typed d value) (widths_named d targets == width_of d value) ok in
+      let front : (list_all (is_target d) targets && is_typed d value)
+      ≡ true = left_true (list_all (is_target d) targets && is_typed d value) (widths_named d targets == width_of d value) ok in
       let typed : is_typed d value ≡ true = right_true (list_all (is_target d) targets) (is_typed d value) front in
-      let same : (widths_named d targets == width_of d value) ≡ true = right_true (list_all (is_target d) targets && is_typed d value) (widths_named d targets == width_of d value) ok in
+      let same : (widths_named d targets == width_of d value)
+      ≡ true = right_true (list_all (is_target d) targets && is_typed d value) (widths_named d targets == width_of d value) ok in
       let e : widths_named d targets ≡ width_of d value = grind (arith, common_steps) in (
         record { design = d; of = of; holds = left_true (list_all (is_target d) targets) (is_typed d value) front },
         record { design = d; of = of; holds = typed },
@@ -266,9 +283,11 @@ module _ (s : State) (e : Effects) where
   pub later_parts : (targets : List Target) (value : Typed) → CanRun s e (step.Later targets value ∷ [])
       → (AreTargetsIn s targets) × (IsTypedIn s value) × ((w n : ℕ) → value_in s value ≡ of_width w n → target_widths s targets ≡ w)
   later_parts targets value h = assigned h.design targets value
-      (sym (steps.fold-Later Bool (ℕ → Bool) (step_formed h.design h.counters) (arm_formed h.design) targets value) ∙ one_formed (step.Later targets value) h) h.of
+      (sym (steps.fold-Later Bool (ℕ → Bool) (step_formed h.design h.counters) (arm_formed h.design) targets value)
+      ∙ one_formed (step.Later targets value) h) h.of
 
-  room_of_targets : (d : Design) (targets : List Target) (value : Typed) → HasRoom e (room_for d (assign_mentions targets value)) → length e.updates + length targets ≤ e.room.updates
+  room_of_targets : (d : Design) (targets : List Target) (value : Typed) → HasRoom e (room_for d (assign_mentions targets value))
+      → length e.updates + length targets ≤ e.room.updates
   room_of_targets d targets value h = omega (arith, h.for_updates, target_count targets value)
 
   pub set_room : (targets : List Target) (value : Typed) → CanRun s e (step.Set targets value ∷ []) → length e.updates + length targets ≤ e.room.updates
@@ -293,5 +312,6 @@ module _ (s : State) (e : Effects) where
   show_room pieces h =
       let d : Design = h.design in
       let room : HasRoom e (room_for d (show_mentions_of pieces)) = subst (λ ms. HasRoom e (room_for d ms)) (show_mentions pieces) (one_room (step.Show pieces) h) in
-      let ok : list_all (is_piece d) pieces ≡ true = sym (steps.fold-Show Bool (ℕ → Bool) (step_formed d h.counters) (arm_formed d) pieces) ∙ one_formed (step.Show pieces) h in
+      let ok : list_all (is_piece d) pieces ≡ true = sym (steps.fold-Show Bool (ℕ → Bool) (step_formed d h.counters) (arm_formed d) pieces)
+      ∙ one_formed (step.Show pieces) h in
       omega (arith, room.for_bytes, show_fits d s h.of h.variables pieces ok)

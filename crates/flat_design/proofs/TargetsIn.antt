@@ -1,5 +1,6 @@
 -- What is known of well typed targets and the parts that they name.
-use Rattle.std.proofs.Common.{◌≡◌, ◌∙◌, sym, ap, subst, refl, ℕ, zero, suc, ◌-◌, ◌%◌, ◌^◌, ◌<◌, ◌≤◌, ◌==◌, take, drop, append-nil, slice_index_or, arith, true, ◌&&◌, List, [], ◌∷◌, ◌++◌, length, map}
+use Rattle.std.proofs.Common.{◌≡◌, ◌∙◌, sym, ap, subst, refl, ℕ, zero, suc, ◌-◌, ◌%◌, ◌^◌, ◌<◌, ◌≤◌, ◌==◌, take, drop, append-nil, slice_index_or, arith, true}
+use Rattle.std.proofs.Common.{◌&&◌, List, [], ◌∷◌, ◌++◌, length, map}
 use Rattle.std.specs.Prelude.{pos, nat_lt, All}
 use Rattle.std.specs.List.{list_all, AllByRecursion}
 use Rattle.std.proofs.Math.Nat.{div-one, mod-eq_of_lt}
@@ -58,7 +59,8 @@ module _ (s : State) where
   pub part_index : (v w : ℕ) (at : Index) → IsTargetIn s (target.Part v w at) → IsIndexIn s at
   part_index v w at h = with_test s (λ d. is_target d (target.Part v w at)) (λ d. is_index d at) h (λ d ok. right_true (is_plain_var d v && is_width w) (is_index d at) ok)
 
-  word_part_front : (d : Design) (v : ℕ) (word : Index) (w : ℕ) (at : Index) → is_target d (target.WordPart v word w at) ≡ true → (is_var d v && is_index d word && is_width w) ≡ true
+  word_part_front : (d : Design) (v : ℕ) (word : Index) (w : ℕ) (at : Index) → is_target d (target.WordPart v word w at) ≡ true
+      → (is_var d v && is_index d word && is_width w) ≡ true
   word_part_front d v word w at ok = left_true (is_var d v && is_index d word && is_width w) (is_index d at) ok
 
   pub word_part_var : (v : ℕ) (word : Index) (w : ℕ) (at : Index) → IsTargetIn s (target.WordPart v word w at) → v < length s
@@ -105,7 +107,8 @@ length-parts_at s (t ∷ ts) n = ap suc (length-parts_at s ts n)
 
 -- ---- lists of placed parts
 
-pub one_target : (s : State) (ts : List Target) (t : Target) (w n : ℕ) → length ts ≡ 1 → t ≡ slice_index_or ts 0 t → AreTargetsIn s ts → target_widths s ts ≡ w → n < 2 ^ w
+pub one_target : (s : State) (ts : List Target) (t : Target) (w n : ℕ) → length ts ≡ 1 → t ≡ slice_index_or ts 0 t → AreTargetsIn s ts
+    → target_widths s ts ≡ w → n < 2 ^ w
     → IsTargetIn s t × (w ≡ target_width s t) × (parts_at s ts n ≡ part_at s t n ∷ [])
 one_target s [] t w n one is h wide small = absurd (omega (arith, one))
 one_target s (x ∷ y ∷ ts) t w n one is h wide small = absurd (omega (arith, one))
@@ -149,4 +152,5 @@ placed_before us old ps e =
 pub slice_rest : {X : Type 0} (n : ℕ) (xs : List X) → take (length xs - n) (drop n xs) ≡ drop n xs
 slice_rest n xs =
     let none : drop (length xs - n) (drop n xs) ≡ [] = drop_of_length-le (drop n xs) {i = length xs - n} (omega (arith, length-drop n xs)) in
-    sym (append-nil (take (length xs - n) (drop n xs))) ∙ ap (λ l. take (length xs - n) (drop n xs) ++ l) (sym none) ∙ take-append-drop (length xs - n) (drop n xs)
+    sym (append-nil (take (length xs - n) (drop n xs))) ∙ ap (λ l. take (length xs - n) (drop n xs) ++ l) (sym none)
+    ∙ take-append-drop (length xs - n) (drop n xs)

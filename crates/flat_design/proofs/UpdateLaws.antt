@@ -98,7 +98,8 @@ module _ (d : Design) (k : ℕ) where
       (pick ((value_in s test).number == 0) left right s
       (all_stand left hl s hs (right_true front l (left_true (front && l) r all))) (all_stand right hr s hs (right_true (front && l) r all)))
 
-  arms_stand : (w n : ℕ) (arms : List StepArm) (rest : List Step) → AllByRecursion (ArmHas Stands) arms → AllByRecursion Stands rest → (s : State) → IsStateOf d s
+  arms_stand : (w n : ℕ) (arms : List StepArm) (rest : List Step) → AllByRecursion (ArmHas Stands) arms → AllByRecursion Stands rest → (s : State)
+      → IsStateOf d s
       → list_all (arm_at d k w) arms ≡ true → list_all (is_step d k) rest ≡ true → All Here (in_turn (chosen s n (map arm_acts arms) (map does rest)) s).updates
   arms_stand w n [] rest ha hr s hs oka okr = all_stand rest hr s hs okr
   arms_stand w n (arm ∷ arms) rest ha hr s hs oka okr =
@@ -113,7 +114,8 @@ module _ (d : Design) (k : ℕ) where
           (all_stand arm.body ha.0 s hs (right_true (list_all (is_item d w) arm.items) (list_all (is_step d k) arm.body) here))
       by false e there = subst (λ acts. All Here (in_turn acts s).updates) (sym (chosen_next s n arm arms (map does rest) e)) there
 
-  case_stands : (on : Typed) (arms : List StepArm) (rest : List Step) → AllByRecursion (ArmHas Stands) arms → AllByRecursion Stands rest → Stands (step.Case on arms rest)
+  case_stands : (on : Typed) (arms : List StepArm) (rest : List Step) → AllByRecursion (ArmHas Stands) arms → AllByRecursion Stands rest
+      → Stands (step.Case on arms rest)
   case_stands on arms rest ha hr s hs ok =
       let w : ℕ = width_of d on in
       let a : Bool = list_all (arm_at d k w) arms in

@@ -28,7 +28,8 @@ use Rattle.flat_design.specs.Needed.{arm_mentions_in, arm_at}
 use Rattle.flat_design.proofs.Rooms.{within_left, within_right, within_both, room_after}
 use Rattle.flat_design.proofs.TargetsIn.{length-parts_at}
 use Rattle.piece_text.proofs.ShowFits.{show_fits}
-use Rattle.flat_design.proofs.StepsIn.{if_formed, case_formed, if_mentions, case_mentions, arm_mentions_is, set_mentions, later_mentions, count_mentions, show_mentions, target_count}
+use Rattle.flat_design.proofs.StepsIn.{if_formed, case_formed, if_mentions, case_mentions, arm_mentions_is, set_mentions, later_mentions, count_mentions}
+use Rattle.flat_design.proofs.StepsIn.{show_mentions, target_count}
 
 -- a step leaves a state of the design
 pub state_kept : (d : Design) (x : Step) (s : State) → IsStateOf d s → IsStateOf d (does x s).state
@@ -40,11 +41,13 @@ arm_acts_is arm = fold_out-StepArm (Act ℕ) ArmAct step_does arm_does arm
 
 pub chosen_here : (s : State) (n : ℕ) (arm : StepArm) (arms : List StepArm) (rest : List (Act ℕ)) → list_any (is_match s n) arm.items ≡ true
     → chosen s n (map arm_acts (arm ∷ arms)) rest ≡ map does arm.body
-chosen_here s n arm arms rest h = ap (λ a. chosen s n (a ∷ map arm_acts arms) rest) (arm_acts_is arm) ∙ ap (λ c. if c then map does arm.body else chosen s n (map arm_acts arms) rest) h
+chosen_here s n arm arms rest h = ap (λ a. chosen s n (a ∷ map arm_acts arms) rest) (arm_acts_is arm)
+    ∙ ap (λ c. if c then map does arm.body else chosen s n (map arm_acts arms) rest) h
 
 pub chosen_next : (s : State) (n : ℕ) (arm : StepArm) (arms : List StepArm) (rest : List (Act ℕ)) → list_any (is_match s n) arm.items ≡ false
     → chosen s n (map arm_acts (arm ∷ arms)) rest ≡ chosen s n (map arm_acts arms) rest
-chosen_next s n arm arms rest h = ap (λ a. chosen s n (a ∷ map arm_acts arms) rest) (arm_acts_is arm) ∙ ap (λ c. if c then map does arm.body else chosen s n (map arm_acts arms) rest) h
+chosen_next s n arm arms rest h = ap (λ a. chosen s n (a ∷ map arm_acts arms) rest) (arm_acts_is arm)
+    ∙ ap (λ c. if c then map does arm.body else chosen s n (map arm_acts arms) rest) h
 
 module _ (d : Design) (k : ℕ) (vars : All IsVariable d.vars) where
   abbrev Within : Step → Type 0
@@ -54,7 +57,8 @@ module _ (d : Design) (k : ℕ) (vars : All IsVariable d.vars) where
   WithinAll xs = (s : State) → IsStateOf d s → list_all (is_step d k) xs ≡ true → IsWithin (all_do xs s) (room_for d (flat_map mentions_in xs))
 
   -- from what a step does and mentions
-  from : (x : Step) (s : State) (o : Outcome ℕ) (ms : List Mention) → does x s ≡ o → mentions_in x ≡ ms → IsWithin o (room_for d ms) → IsWithin (does x s) (room_for d (mentions_in x))
+  from : (x : Step) (s : State) (o : Outcome ℕ) (ms : List Mention) → does x s ≡ o → mentions_in x ≡ ms → IsWithin o (room_for d ms)
+      → IsWithin (does x s) (room_for d (mentions_in x))
   from x s o ms eo em h = subst (λ o. IsWithin o (room_for d (mentions_in x))) (sym eo) (subst (λ ms. IsWithin o (room_for d ms)) (sym em) h)
 
   nothing : (ms : List Mention) (o : Outcome ℕ) → o.updates ≡ [] → o.text ≡ [] → o.notes ≡ [] → IsWithin o (room_for d ms)
@@ -67,7 +71,8 @@ module _ (d : Design) (k : ℕ) (vars : All IsVariable d.vars) where
       (h.0 s hs (left_true (is_step d k x) (list_all (is_step d k) xs) ok))
       (all_within xs h.1 (does x s).state (state_kept d x s hs) (right_true (is_step d k x) (list_all (is_step d k) xs) ok))
 
-  pick : (c : Bool) (left right : List Step) (s : State) → IsWithin (all_do left s) (room_for d (flat_map mentions_in left)) → IsWithin (all_do right s) (room_for d (flat_map mentions_in right))
+  pick : (c : Bool) (left right : List Step) (s : State) → IsWithin (all_do left s) (room_for d (flat_map mentions_in left))
+      → IsWithin (all_do right s) (room_for d (flat_map mentions_in right))
       → IsWithin (in_turn (if c then map does right else map does left) s) (room_for d (flat_map mentions_in left ++ flat_map mentions_in right))
   pick true left right s l r = within_right d (all_do right s) (flat_map mentions_in left) (flat_map mentions_in right) r
   pick false left right s l r = within_left d (all_do left s) (flat_map mentions_in left) (flat_map mentions_in right) l
@@ -83,7 +88,8 @@ module _ (d : Design) (k : ℕ) (vars : All IsVariable d.vars) where
       (pick ((value_in s test).number == 0) left right s
       (all_within left hl s hs (right_true front l (left_true (front && l) r ok'))) (all_within right hr s hs (right_true (front && l) r ok'))))
 
-  arms_within : (w n : ℕ) (arms : List StepArm) (rest : List Step) → AllByRecursion (ArmHas Within) arms → AllByRecursion Within rest → (s : State) → IsStateOf d s
+  arms_within : (w n : ℕ) (arms : List StepArm) (rest : List Step) → AllByRecursion (ArmHas Within) arms → AllByRecursion Within rest → (s : State)
+      → IsStateOf d s
       → list_all (arm_at d k w) arms ≡ true → list_all (is_step d k) rest ≡ true
       → IsWithin (in_turn (chosen s n (map arm_acts arms) (map does rest)) s) (room_for d (flat_map arm_mentions_in arms ++ flat_map mentions_in rest))
   arms_within w n [] rest ha hr s hs oka okr = all_within rest hr s hs okr
@@ -98,18 +104,22 @@ module _ (d : Design) (k : ℕ) (vars : All IsVariable d.vars) where
 
       by : (c : Bool) → list_any (is_match s n) arm.items ≡ c
           → IsWithin (in_turn (chosen s n (map arm_acts arms) (map does rest)) s) (room_for d (flat_map arm_mentions_in arms ++ flat_map mentions_in rest))
-          → IsWithin (in_turn (chosen s n (map arm_acts (arm ∷ arms)) (map does rest)) s) (room_for d (flat_map arm_mentions_in (arm ∷ arms) ++ flat_map mentions_in rest))
-      by true e there = subst (λ acts. IsWithin (in_turn acts s) (room_for d (flat_map arm_mentions_in (arm ∷ arms) ++ flat_map mentions_in rest))) (sym (chosen_here s n arm arms (map does rest) e))
+          → IsWithin (in_turn (chosen s n (map arm_acts (arm ∷ arms)) (map does rest)) s) (room_for d (flat_map arm_mentions_in (arm ∷ arms)
+          ++ flat_map mentions_in rest))
+      by true e there = subst (λ acts. IsWithin (in_turn acts s) (room_for d (flat_map arm_mentions_in (arm ∷ arms)
+          ++ flat_map mentions_in rest))) (sym (chosen_here s n arm arms (map does rest) e))
           (within_left d (all_do arm.body s) (flat_map arm_mentions_in (arm ∷ arms)) (flat_map mentions_in rest)
           (within_left d (all_do arm.body s) (arm_mentions_in arm) (flat_map arm_mentions_in arms)
           (subst (λ ms. IsWithin (all_do arm.body s) (room_for d ms)) (sym (arm_mentions_is arm))
           (within_right d (all_do arm.body s) (flat_map item_mentions arm.items) (flat_map mentions_in arm.body)
           (all_within arm.body ha.0 s hs (right_true (list_all (is_item d w) arm.items) (list_all (is_step d k) arm.body) here))))))
-      by false e there = subst (λ acts. IsWithin (in_turn acts s) (room_for d (flat_map arm_mentions_in (arm ∷ arms) ++ flat_map mentions_in rest))) (sym (chosen_next s n arm arms (map does rest) e))
+      by false e there = subst (λ acts. IsWithin (in_turn acts s) (room_for d (flat_map arm_mentions_in (arm ∷ arms)
+          ++ flat_map mentions_in rest))) (sym (chosen_next s n arm arms (map does rest) e))
           (subst (λ ms. IsWithin (in_turn (chosen s n (map arm_acts arms) (map does rest)) s) (room_for d ms)) (sym (append_assoc (arm_mentions_in arm) (flat_map arm_mentions_in arms) (flat_map mentions_in rest)))
           (within_right d (in_turn (chosen s n (map arm_acts arms) (map does rest)) s) (arm_mentions_in arm) more there))
 
-  case_within : (on : Typed) (arms : List StepArm) (rest : List Step) → AllByRecursion (ArmHas Within) arms → AllByRecursion Within rest → Within (step.Case on arms rest)
+  case_within : (on : Typed) (arms : List StepArm) (rest : List Step) → AllByRecursion (ArmHas Within) arms → AllByRecursion Within rest
+      → Within (step.Case on arms rest)
   case_within on arms rest ha hr s hs ok =
       let w : ℕ = width_of d on in
       let a : Bool = list_all (arm_at d k w) arms in
@@ -127,7 +137,12 @@ module _ (d : Design) (k : ℕ) (vars : All IsVariable d.vars) where
       if_within
       case_within
       (λ pieces s hs ok. from (step.Show pieces) s _ _ (equation.does-Show pieces s) (show_mentions pieces)
-      (record { updates = omega arith; bytes = show_fits d s hs vars pieces (sym (steps.fold-Show Bool (ℕ → Bool) (step_formed d k) (arm_formed d) pieces) ∙ ok); counters = omega arith }))
+      (record {
+        updates = omega arith;
+        bytes = show_fits d s hs vars pieces (sym (steps.fold-Show Bool (ℕ → Bool) (step_formed d k) (arm_formed d) pieces)
+            ∙ ok);
+        counters = omega arith;
+      }))
       (λ s hs ok. from step.Finish s _ _ (equation.does-Finish s) refl (nothing _ _ refl refl refl))
       (λ s hs ok. from step.Stop s _ _ (equation.does-Stop s) refl (nothing _ _ refl refl refl))
       (λ counter s hs ok. from (step.Count counter) s _ _ (equation.does-Count counter s) (count_mentions counter) (record { updates = omega arith; bytes = omega arith; counters = omega arith }))

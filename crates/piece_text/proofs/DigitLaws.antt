@@ -1,10 +1,12 @@
 -- Digits in parts, and digits without leading zeros.
-use Rattle.std.proofs.Common.{◌≡◌, ◌∙◌, ap, sym, subst, refl, ℕ, zero, suc, ◌+◌, ◌-◌, ◌*◌, ◌/◌, ◌%◌, ◌^◌, ◌<◌, ◌≤◌, ◌==◌, false, List, [], ◌∷◌, ◌++◌, append_assoc, append-nil, length, replicate, add-one, inl, inr, arith}
+use Rattle.std.proofs.Common.{◌≡◌, ◌∙◌, ap, sym, subst, refl, ℕ, zero, suc, ◌+◌, ◌-◌, ◌*◌, ◌/◌, ◌%◌, ◌^◌, ◌<◌, ◌≤◌, ◌==◌, false, List, [], ◌∷◌, ◌++◌}
+use Rattle.std.proofs.Common.{append_assoc, append-nil, length, replicate, add-one, inl, inr, arith}
 use Rattle.std.specs.Prelude.{◌⊎◌, if◌then◌else◌}
 use Rattle.std.proofs.lemmas.Grind.{common_steps}
 use Rattle.std.proofs.lemmas.List.{length-append}
 use Rattle.std.proofs.lemmas.Bool.{cases_lt}
-use Rattle.std.proofs.Math.Nat.{div-eq_of_lt, pow-suc, pow-succ', div-div-eq-div-mul, pow-le-pow_right, mul-div_cancel, one-le-pow, mod-eq_of_lt, zero-div, zero-mod, div-lt_iff_lt-mul, le-div_iff_mul-le}
+use Rattle.std.proofs.Math.Nat.{div-eq_of_lt, pow-suc, pow-succ', div-div-eq-div-mul, pow-le-pow_right, mul-div_cancel, one-le-pow, mod-eq_of_lt, zero-div}
+use Rattle.std.proofs.Math.Nat.{zero-mod, div-lt_iff_lt-mul, le-div_iff_mul-le}
 use Rattle.circuit_run.specs.Digits.{digit, digits, trimmed}
 use Rattle.piece_text.specs.DigitCounts.{IsDigitCount}
 
@@ -17,8 +19,10 @@ fewer : (base n k : ℕ) → n / base ^ k / base ≡ n / base ^ (k + 1)
 fewer base n k = div-div-eq-div-mul n (base ^ k) base ∙ ap (λ m. n / m) (sym (pow-suc base k)) ∙ ap (λ j. n / base ^ j) (sym (add-one k))
 
 -- one digit more at the right
-pub next_digit : (base done left n : ℕ) → digits base (done + 1) (n / base ^ left) ≡ digits base done (n / base ^ (left + 1)) ++ digit (n / base ^ left % base) ∷ []
-next_digit base done left n = ap (λ k. digits base k (n / base ^ left)) (add-one done) ∙ ap (λ m. digits base done m ++ digit (n / base ^ left % base) ∷ []) (fewer base n left)
+pub next_digit : (base done left n : ℕ) → digits base (done + 1) (n / base ^ left) ≡ digits base done (n / base ^ (left + 1))
+    ++ digit (n / base ^ left % base) ∷ []
+next_digit base done left n = ap (λ k. digits base k (n / base ^ left)) (add-one done)
+    ∙ ap (λ m. digits base done m ++ digit (n / base ^ left % base) ∷ []) (fewer base n left)
 
 pub base_pos : (base k : ℕ) → 2 ≤ base → 0 < base ^ k
 base_pos base k h = one-le-pow k base (omega (arith, h))
@@ -86,14 +90,16 @@ first_digit base k n lt some =
     let f : n / base ^ k < base = (div-lt_iff_lt-mul (one-le-pow k base (omega (arith, some)))).1 (subst (λ m. n < m) (pow-succ' base k) lt) in
     ap (λ c. digits base c n) e ∙ digits_split base 1 k n ∙ ap (λ x. digit x ∷ digits base k n) (mod-eq_of_lt f)
 
-full : (base k n : ℕ) → 1 ≤ base → n < base ^ suc k → (suc k ≡ 1) ⊎ (base ^ (suc k - 1) ≤ n) → (j : ℕ) → trimmed (replicate j 48 ++ digits base (suc k) n) ≡ digits base (suc k) n
+full : (base k n : ℕ) → 1 ≤ base → n < base ^ suc k → (suc k ≡ 1) ⊎ (base ^ (suc k - 1) ≤ n) → (j : ℕ)
+    → trimmed (replicate j 48 ++ digits base (suc k) n) ≡ digits base (suc k) n
 full base k n some lt least j = elim least [
   | inl one ↦ subst (λ c. trimmed (replicate j 48 ++ digits base c n) ≡ digits base c n) (sym one) (zeros_off [] (digit (n % base)) j)
   | inr big ↦
       let e : suc k - 1 ≡ k = omega arith in
       let big' : base ^ k ≤ n = subst (λ c. base ^ c ≤ n) e big in
       let m : 1 ≤ n / base ^ k = (le-div_iff_mul-le (one-le-pow k base (omega (arith, some)))).1 (omega (arith, big')) in
-      rw (first_digit base k n lt some) (zeros_off (digits base k n) (digit (n / base ^ k)) j ∙ stays (digit (n / base ^ k)) (digits base k n) (no_zero (n / base ^ k) m))
+      rw (first_digit base k n lt some) (zeros_off (digits base k n) (digit (n / base ^ k)) j
+      ∙ stays (digit (n / base ^ k)) (digits base k n) (no_zero (n / base ^ k) m))
 ]
 
 -- with its least number of digits a number is spelled without leading zeros
@@ -103,7 +109,8 @@ trimmed_is base most n (suc k) h c =
     let e : most ≡ (most - suc k) + suc k = omega (arith, c.few) in
     let z : n / base ^ suc k ≡ 0 = div-eq_of_lt c.hold in
     ap (λ m. trimmed (digits base m n)) e
-    ∙ ap trimmed (digits_split base (most - suc k) (suc k) n ∙ ap (λ m. digits base (most - suc k) m ++ digits base (suc k) n) z ∙ ap (λ xs. xs ++ digits base (suc k) n) (digits_of_0 base (most - suc k)))
+    ∙ ap trimmed (digits_split base (most - suc k) (suc k) n ∙ ap (λ m. digits base (most - suc k) m ++ digits base (suc k) n) z
+    ∙ ap (λ xs. xs ++ digits base (suc k) n) (digits_of_0 base (most - suc k)))
     ∙ full base k n (omega (arith, h)) c.hold c.least (most - suc k)
 
 pub length_trimmed : (base most n count : ℕ) → 2 ≤ base → IsDigitCount base most n count → count ≡ length (trimmed (digits base most n))

@@ -25,7 +25,8 @@ module _ (s : State) where
   pub bin_value : (short : Bool) (e : Typed) → IsPieceIn s (piece.Bin short e) → IsTypedIn s e
   bin_value short e h = with_test s (λ d. is_piece d (piece.Bin short e)) (λ d. is_typed d e) h (λ d ok. ok)
 
-  pub dec_text_is : (is_signed short : Bool) (e : Typed) (w n : ℕ) → value_in s e ≡ of_width w n → piece_text s (piece.Dec is_signed short e) ≡ decimal_piece is_signed short w n
+  pub dec_text_is : (is_signed short : Bool) (e : Typed) (w n : ℕ) → value_in s e ≡ of_width w n
+      → piece_text s (piece.Dec is_signed short e) ≡ decimal_piece is_signed short w n
   unfolding value_text columns_for
   dec_text_is is_signed true e w n v = ap (dec_text is_signed) v
   dec_text_is is_signed false e w n v = ap (λ a. to_the_right (decimal_columns is_signed a.width) (dec_text is_signed a)) v

@@ -1,5 +1,6 @@
 -- The widths of well typed expressions are 1 to 128, and what pieces print is no longer than said.
-use Rattle.std.proofs.Common.{◌≡◌, ◌∙◌, sym, subst, refl, ℕ, ◌+◌, ◌*◌, ◌<◌, ◌≤◌, ◌^◌, ◌==◌, Bool, true, false, ◌&&◌, ◌||◌, List, [], ◌∷◌, ◌++◌, length, map, arith}
+use Rattle.std.proofs.Common.{◌≡◌, ◌∙◌, sym, subst, refl, ℕ, ◌+◌, ◌*◌, ◌<◌, ◌≤◌, ◌^◌, ◌==◌, Bool, true, false, ◌&&◌, ◌||◌, List, [], ◌∷◌, ◌++◌, length, map}
+use Rattle.std.proofs.Common.{arith}
 use Rattle.std.specs.Prelude.{All, flat_map, nat_lt, nat_le}
 use Rattle.std.specs.List.{list_all}
 use Rattle.std.proofs.lemmas.Grind.{common_steps}
@@ -97,15 +98,18 @@ dec_fits is_signed w n some most h = text_fits is_signed w n some most h
 
 module _ (d : Design) (s : State) (of : IsStateOf d s) (vars : All IsVariable d.vars) where
   -- the value of a piece, by its width
-  shown_value : (x : Typed) → is_typed d x ≡ true → (1 ≤ width_of d x) × (width_of d x ≤ 128) × ((value_in s x).width ≡ width_of d x) × ((value_in s x).number < 2 ^ width_of d x)
+  shown_value : (x : Typed) → is_typed d x ≡ true → (1 ≤ width_of d x) × (width_of d x ≤ 128) × ((value_in s x).width
+      ≡ width_of d x) × ((value_in s x).number < 2 ^ width_of d x)
   shown_value x ok =
       let f : ((value_in s x).width ≡ width_of d x) × ((value_in s x).number < 2 ^ width_of d x) = fits d s of x ok in
       let b : (1 ≤ width_of d x) × (width_of d x ≤ 128) = width_bounds (width_of d x) (is_wide d vars x ok) in
       (b.0, b.1, f.0, f.1)
 
-  value_fits : (is_signed : Bool) (x : Typed) → is_typed d x ≡ true → length (dec_text is_signed (value_in s x)) ≤ decimal_columns is_signed (value_in s x).width
+  value_fits : (is_signed : Bool) (x : Typed) → is_typed d x ≡ true
+      → length (dec_text is_signed (value_in s x)) ≤ decimal_columns is_signed (value_in s x).width
   value_fits is_signed x ok =
-      let k : (1 ≤ width_of d x) × (width_of d x ≤ 128) × ((value_in s x).width ≡ width_of d x) × ((value_in s x).number < 2 ^ width_of d x) = shown_value x ok in
+      let k : (1 ≤ width_of d x) × (width_of d x ≤ 128) × ((value_in s x).width
+      ≡ width_of d x) × ((value_in s x).number < 2 ^ width_of d x) = shown_value x ok in
       dec_fits is_signed (value_in s x).width (value_in s x).number (omega (arith, k.0, k.2)) (omega (arith, k.1, k.2)) (subst (λ w. (value_in s x).number < 2 ^ w) (sym k.2) k.3)
 
   same_width_of : (x : Typed) → is_typed d x ≡ true → (value_in s x).width ≡ width_of d x
@@ -132,7 +136,8 @@ module _ (d : Design) (s : State) (of : IsStateOf d s) (vars : All IsVariable d.
       let a : Value = value_in s x in
       subst (λ w. length (piece_text s (piece.Bin false x)) ≤ w) (same_width_of x ok) (omega (arith, length-digits 2 a.width a.number))
 
-  pieces_fit : (ps : List Piece) (more : List Mention) → list_all (is_piece d) ps ≡ true → length (flat_map (piece_text s) ps) ≤ total (map (mention_length d) (map shown ps ++ more))
+  pieces_fit : (ps : List Piece) (more : List Mention) → list_all (is_piece d) ps ≡ true
+      → length (flat_map (piece_text s) ps) ≤ total (map (mention_length d) (map shown ps ++ more))
   pieces_fit [] more ok = omega arith
   pieces_fit (p ∷ ps) more ok =
       omega (
@@ -142,5 +147,6 @@ module _ (d : Design) (s : State) (of : IsStateOf d s) (vars : All IsVariable d.
         pieces_fit ps more (right_true (is_piece d p) (list_all (is_piece d) ps) ok),
       )
 
-  pub show_fits : (ps : List Piece) → list_all (is_piece d) ps ≡ true → length (flat_map (piece_text s) ps) ≤ total (map (mention_length d) (map shown ps ++ flat_map piece_mentions ps))
+  pub show_fits : (ps : List Piece) → list_all (is_piece d) ps ≡ true
+      → length (flat_map (piece_text s) ps) ≤ total (map (mention_length d) (map shown ps ++ flat_map piece_mentions ps))
   show_fits ps ok = pieces_fit ps (flat_map piece_mentions ps) ok

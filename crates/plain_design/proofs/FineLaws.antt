@@ -1,5 +1,6 @@
 -- What is found of steps, from what is found of their parts.
-use Rattle.std.proofs.Common.{◌≡◌, ◌∙◌, sym, ap, subst, refl, ℕ, zero, suc, ◌+◌, ◌<◌, ◌≤◌, ◌^◌, ◌==◌, arith, Bool, true, false, ◌&&◌, ◌||◌, List, [], ◌∷◌, ◌++◌, map, append-nil}
+use Rattle.std.proofs.Common.{◌≡◌, ◌∙◌, sym, ap, subst, refl, ℕ, zero, suc, ◌+◌, ◌<◌, ◌≤◌, ◌^◌, ◌==◌, arith, Bool, true, false, ◌&&◌, ◌||◌, List, [], ◌∷◌, ◌++◌}
+use Rattle.std.proofs.Common.{map, append-nil}
 use Rattle.std.specs.Prelude.{flat_map, nat_lt, All}
 use Rattle.std.specs.List.{list_all}
 use Rattle.cov_types.specs.declared.kind.ProcessKind.{ProcessKind}
@@ -28,9 +29,11 @@ use Rattle.piece_text.specs.DigitCounts.{columns_for}
 use Rattle.flat_design.specs.InDesign.{mentions_in}
 use Rattle.flat_design.specs.Needed.{arm_mentions_in, arm_at}
 use Rattle.flat_design.proofs.Rooms.{flat_append}
-use Rattle.flat_design.proofs.StepsIn.{if_formed, case_formed, if_mentions, case_mentions, arm_mentions_is, set_mentions, later_mentions, count_mentions, show_mentions, assign_mentions}
+use Rattle.flat_design.proofs.StepsIn.{if_formed, case_formed, if_mentions, case_mentions, arm_mentions_is, set_mentions, later_mentions, count_mentions}
+use Rattle.flat_design.proofs.StepsIn.{show_mentions, assign_mentions}
 use Rattle.plain_design.specs.Seen.{IsSeen}
-use Rattle.plain_design.specs.Fine.{weight, weights, Written, targets_here, Quiet, ArmsQuiet, arm_told, arm_steps, AreTargetsSeen, IsTargetSeen, IsPieceSeen, ArePiecesSeen, AreItemsSeen, AreFine, AreArmsFine, IsAssignment}
+use Rattle.plain_design.specs.Fine.{weight, weights, Written, targets_here, Quiet, ArmsQuiet, arm_told, arm_steps, AreTargetsSeen, IsTargetSeen, IsPieceSeen}
+use Rattle.plain_design.specs.Fine.{ArePiecesSeen, AreItemsSeen, AreFine, AreArmsFine, IsAssignment}
 use Rattle.plain_design.proofs.SeenLaws.{equal_true, lt_true}
 
 -- ---- lists
@@ -87,7 +90,8 @@ module _ (d : Design) where
   unfolding columns_for
   columns_is is_signed w = refl
 
-  pub piece_dec : (is_signed short : Bool) (x : Typed) (budget w mid left : ℕ) → IsSeen d x budget w mid → columns_for is_signed w + left ≤ mid → IsPieceSeen d (piece.Dec is_signed short x) budget left
+  pub piece_dec : (is_signed short : Bool) (x : Typed) (budget w mid left : ℕ) → IsSeen d x budget w mid → columns_for is_signed w + left ≤ mid
+      → IsPieceSeen d (piece.Dec is_signed short x) budget left
   piece_dec is_signed short x budget w mid left h le = record {
     typed = h.typed;
     within = omega (arith, h.within, le, columns_is is_signed w, ap (decimal_columns is_signed) h.width);
@@ -96,7 +100,8 @@ module _ (d : Design) where
   pub pieces_none : (left : ℕ) → ArePiecesSeen d [] left left
   pieces_none left = record { typed = refl; within = omega arith }
 
-  pub pieces_more : (p : Piece) (ps : List Piece) (budget mid left : ℕ) → IsPieceSeen d p budget mid → ArePiecesSeen d ps mid left → ArePiecesSeen d (p ∷ ps) budget left
+  pub pieces_more : (p : Piece) (ps : List Piece) (budget mid left : ℕ) → IsPieceSeen d p budget mid → ArePiecesSeen d ps mid left
+      → ArePiecesSeen d (p ∷ ps) budget left
   pieces_more p ps budget mid left h k = record {
     typed = and_from (is_piece d p) (list_all (is_piece d) ps) h.typed k.typed;
     within = omega (
@@ -112,7 +117,8 @@ module _ (d : Design) where
   pub items_none : (w left : ℕ) → AreItemsSeen d w [] left left
   items_none w left = record { typed = refl; within = omega arith }
 
-  pub items_more : (w : ℕ) (item : StepItem) (items : List StepItem) (budget mid left : ℕ) → IsSeen d item.value budget w mid → item.mask < 2 ^ w → AreItemsSeen d w items mid left
+  pub items_more : (w : ℕ) (item : StepItem) (items : List StepItem) (budget mid left : ℕ) → IsSeen d item.value budget w mid → item.mask < 2 ^ w
+      → AreItemsSeen d w items mid left
       → AreItemsSeen d w (item ∷ items) budget left
   items_more w item items budget mid left h small k = record {
     typed = and_from (is_item d w item) (list_all (is_item d w) items)
@@ -128,7 +134,8 @@ module _ (d : Design) (kd : ProcessKind) where
   pub targets_none : (left : ℕ) → AreTargetsSeen d kd [] left 0 left
   targets_none left = record { typed = refl; written = all_none (Written d kd); width = refl; within = omega arith }
 
-  pub targets_more : (t : Target) (ts : List Target) (budget mid v w left : ℕ) → IsTargetSeen d t budget mid → Written d kd t → width_named d t ≡ v → AreTargetsSeen d kd ts mid w left → AreTargetsSeen d kd (t ∷ ts) budget (v + w) left
+  pub targets_more : (t : Target) (ts : List Target) (budget mid v w left : ℕ) → IsTargetSeen d t budget mid → Written d kd t → width_named d t ≡ v
+      → AreTargetsSeen d kd ts mid w left → AreTargetsSeen d kd (t ∷ ts) budget (v + w) left
   targets_more t ts budget mid v w left h wr e k = record {
     written = all_cons (Written d kd) t ts wr k.written;
     typed = and_from (is_target d t) (list_all (is_target d) ts) h.typed k.typed;
@@ -139,7 +146,8 @@ module _ (d : Design) (kd : ProcessKind) where
   -- ---- one step
 
   -- from whether it is well formed, how many steps it is, and what it mentions
-  from : (k : ℕ) (x : Step) (budget left n : ℕ) (ms : List Mention) → is_step d k x ≡ true → steps_in x ≡ n → mentions_in x ≡ ms → n + weights d ms + left ≤ budget → targets_here d kd ms → (may_tell kd ≡ false → tells x ≡ false) → AreFine d kd k (x ∷ []) budget left
+  from : (k : ℕ) (x : Step) (budget left n : ℕ) (ms : List Mention) → is_step d k x ≡ true → steps_in x ≡ n → mentions_in x ≡ ms
+      → n + weights d ms + left ≤ budget → targets_here d kd ms → (may_tell kd ≡ false → tells x ≡ false) → AreFine d kd k (x ∷ []) budget left
   from k x budget left n ms ok en em le here quiet = record {
     formed = and_from (is_step d k x) true ok refl;
     within = omega (arith, le, en, ap (weights d) (append-nil (mentions_in x) ∙ em));
@@ -155,26 +163,33 @@ module _ (d : Design) (kd : ProcessKind) where
   assign_here [] value h = all_none (Written d kd)
   assign_here (t ∷ ts) value h = all_cons (Written d kd) t _ (all_first (Written d kd) t ts h) (assign_here ts value (all_rest (Written d kd) t ts h))
 
-  assigned : (ts : List Target) (value : Typed) (budget left : ℕ) → IsAssignment d kd ts value budget left → (list_all (is_target d) ts && is_typed d value && widths_named d ts == width_of d value) ≡ true
+  assigned : (ts : List Target) (value : Typed) (budget left : ℕ) → IsAssignment d kd ts value budget left
+      → (list_all (is_target d) ts && is_typed d value && widths_named d ts == width_of d value) ≡ true
   assigned ts value budget left h = and_from (list_all (is_target d) ts && is_typed d value) (widths_named d ts == width_of d value) (and_from (list_all (is_target d) ts) (is_typed d value) h.targets h.typed)
       (equal_true (widths_named d ts) (width_of d value) h.same)
 
-  pub fine_set : (k : ℕ) (ts : List Target) (value : Typed) (budget mid left : ℕ) → 1 + mid ≤ budget → IsAssignment d kd ts value mid left → AreFine d kd k (step.Set ts value ∷ []) budget left
+  pub fine_set : (k : ℕ) (ts : List Target) (value : Typed) (budget mid left : ℕ) → 1 + mid ≤ budget → IsAssignment d kd ts value mid left
+      → AreFine d kd k (step.Set ts value ∷ []) budget left
   fine_set k ts value budget mid left le h = from k (step.Set ts value) budget left 1 (assign_mentions ts value)
-      (steps.fold-Set Bool (ℕ → Bool) (step_formed d k) (arm_formed d) ts value ∙ assigned ts value mid left h) (steps.fold-Set ℕ ℕ step_size arm_size ts value) (set_mentions ts value)
+      (steps.fold-Set Bool (ℕ → Bool) (step_formed d k) (arm_formed d) ts value
+      ∙ assigned ts value mid left h) (steps.fold-Set ℕ ℕ step_size arm_size ts value) (set_mentions ts value)
       (omega (arith, le, h.within, assign_weights ts value)) (assign_here ts value h.written)
       (λ q. steps.fold-Set Bool Bool step_tells arm_tells ts value)
 
-  pub fine_later : (k : ℕ) (ts : List Target) (value : Typed) (budget mid left : ℕ) → 1 + mid ≤ budget → IsAssignment d kd ts value mid left → AreFine d kd k (step.Later ts value ∷ []) budget left
+  pub fine_later : (k : ℕ) (ts : List Target) (value : Typed) (budget mid left : ℕ) → 1 + mid ≤ budget → IsAssignment d kd ts value mid left
+      → AreFine d kd k (step.Later ts value ∷ []) budget left
   fine_later k ts value budget mid left le h = from k (step.Later ts value) budget left 1 (assign_mentions ts value)
-      (steps.fold-Later Bool (ℕ → Bool) (step_formed d k) (arm_formed d) ts value ∙ assigned ts value mid left h) (steps.fold-Later ℕ ℕ step_size arm_size ts value) (later_mentions ts value)
+      (steps.fold-Later Bool (ℕ → Bool) (step_formed d k) (arm_formed d) ts value
+      ∙ assigned ts value mid left h) (steps.fold-Later ℕ ℕ step_size arm_size ts value) (later_mentions ts value)
       (omega (arith, le, h.within, assign_weights ts value)) (assign_here ts value h.written)
       (λ q. steps.fold-Later Bool Bool step_tells arm_tells ts value)
 
-  pub fine_if : (k : ℕ) (test : Typed) (a b : List Step) (budget mid mid2 mid3 left : ℕ) → 1 + mid ≤ budget → IsSeen d test mid 1 mid2 → AreFine d kd k a mid2 mid3 → AreFine d kd k b mid3 left
+  pub fine_if : (k : ℕ) (test : Typed) (a b : List Step) (budget mid mid2 mid3 left : ℕ) → 1 + mid ≤ budget → IsSeen d test mid 1 mid2
+      → AreFine d kd k a mid2 mid3 → AreFine d kd k b mid3 left
       → AreFine d kd k (step.If test a b ∷ []) budget left
   fine_if k test a b budget mid mid2 mid3 left le h x y =
-      let front : (is_typed d test && width_of d test == 1) ≡ true = and_from (is_typed d test) (width_of d test == 1) h.typed (equal_true (width_of d test) 1 h.width) in
+      let front : (is_typed d test && width_of d test == 1)
+      ≡ true = and_from (is_typed d test) (width_of d test == 1) h.typed (equal_true (width_of d test) 1 h.width) in
       let ms : List Mention = flat_map mentions_in a in
       let ns : List Mention = flat_map mentions_in b in
       from k (step.If test a b) budget left (1 + total (map steps_in a) + total (map steps_in b)) (expression test ∷ ms ++ ns)
@@ -184,7 +199,8 @@ module _ (d : Design) (kd : ProcessKind) where
       (omega (arith, le, h.within, x.within, y.within, weights_append d ms ns)) (here_append ms ns x.here y.here)
       (λ q. steps.fold-If Bool Bool step_tells arm_tells test a b ∙ neither (any_of (map tells a)) (any_of (map tells b)) (x.quiet q) (y.quiet q))
 
-  pub fine_case : (k w : ℕ) (on : Typed) (arms : List StepArm) (rest : List Step) (budget mid mid2 mid3 left : ℕ) → 1 + mid ≤ budget → IsSeen d on mid w mid2 → AreArmsFine d kd k w arms mid2 mid3
+  pub fine_case : (k w : ℕ) (on : Typed) (arms : List StepArm) (rest : List Step) (budget mid mid2 mid3 left : ℕ) → 1 + mid ≤ budget → IsSeen d on mid w mid2
+      → AreArmsFine d kd k w arms mid2 mid3
       → AreFine d kd k rest mid3 left → AreFine d kd k (step.Case on arms rest ∷ []) budget left
   fine_case k w on arms rest budget mid mid2 mid3 left le h x y =
       let ms : List Mention = flat_map arm_mentions_in arms in
@@ -195,7 +211,8 @@ module _ (d : Design) (kd : ProcessKind) where
       (and_from (is_typed d on) (list_all (arm_at d k (width_of d on)) arms) h.typed ok) y.formed)
       (steps.fold-Case ℕ ℕ step_size arm_size on arms rest) (case_mentions on arms rest)
       (omega (arith, le, h.within, x.within, y.within, weights_append d ms ns)) (here_append ms ns x.here y.here)
-      (λ q. steps.fold-Case Bool Bool step_tells arm_tells on arms rest ∙ neither (any_of (map arm_told arms)) (any_of (map tells rest)) (x.quiet q) (y.quiet q))
+      (λ q. steps.fold-Case Bool Bool step_tells arm_tells on arms rest
+      ∙ neither (any_of (map arm_told arms)) (any_of (map tells rest)) (x.quiet q) (y.quiet q))
 
   pieces_here : (ps : List Piece) → targets_here d kd (map shown ps ++ flat_map piece_mentions ps)
   pieces_here ps = here_append (map shown ps) (flat_map piece_mentions ps) (shown_here ps) (inner ps)
@@ -217,21 +234,25 @@ module _ (d : Design) (kd : ProcessKind) where
   may_quiet : (x : Step) → may_tell kd ≡ true → may_tell kd ≡ false → tells x ≡ false
   may_quiet x may q = absurd (cc (sym may ∙ q))
 
-  pub fine_show : (k : ℕ) (ps : List Piece) (budget mid left : ℕ) → may_tell kd ≡ true → 1 + mid ≤ budget → ArePiecesSeen d ps mid left → AreFine d kd k (step.Show ps ∷ []) budget left
+  pub fine_show : (k : ℕ) (ps : List Piece) (budget mid left : ℕ) → may_tell kd ≡ true → 1 + mid ≤ budget → ArePiecesSeen d ps mid left
+      → AreFine d kd k (step.Show ps ∷ []) budget left
   fine_show k ps budget mid left may le h = from k (step.Show ps) budget left 1 (map shown ps ++ flat_map piece_mentions ps)
       (steps.fold-Show Bool (ℕ → Bool) (step_formed d k) (arm_formed d) ps ∙ h.typed) (steps.fold-Show ℕ ℕ step_size arm_size ps) (show_mentions ps)
       (omega (arith, le, h.within)) (pieces_here ps) (may_quiet (step.Show ps) may)
 
   pub fine_finish : (k budget left : ℕ) → may_tell kd ≡ true → 1 + left ≤ budget → AreFine d kd k (step.Finish ∷ []) budget left
-  fine_finish k budget left may le = from k step.Finish budget left 1 [] (steps.fold-Finish Bool (ℕ → Bool) (step_formed d k) (arm_formed d)) (steps.fold-Finish ℕ ℕ step_size arm_size)
+  fine_finish k budget left may le = from k step.Finish budget left 1 [] (steps.fold-Finish Bool (ℕ
+      → Bool) (step_formed d k) (arm_formed d)) (steps.fold-Finish ℕ ℕ step_size arm_size)
       (steps.fold-Finish (List Mention) (List Mention) step_mentions arm_mentions) (omega (arith, le)) (all_none (Written d kd)) (may_quiet step.Finish may)
 
   pub fine_stop : (k budget left : ℕ) → may_tell kd ≡ true → 1 + left ≤ budget → AreFine d kd k (step.Stop ∷ []) budget left
-  fine_stop k budget left may le = from k step.Stop budget left 1 [] (steps.fold-Stop Bool (ℕ → Bool) (step_formed d k) (arm_formed d)) (steps.fold-Stop ℕ ℕ step_size arm_size)
+  fine_stop k budget left may le = from k step.Stop budget left 1 [] (steps.fold-Stop Bool (ℕ
+      → Bool) (step_formed d k) (arm_formed d)) (steps.fold-Stop ℕ ℕ step_size arm_size)
       (steps.fold-Stop (List Mention) (List Mention) step_mentions arm_mentions) (omega (arith, le)) (all_none (Written d kd)) (may_quiet step.Stop may)
 
   pub fine_count : (k c budget left : ℕ) → 1 + left ≤ budget → c < k → AreFine d kd k (step.Count c ∷ []) budget left
-  fine_count k c budget left le lt = from k (step.Count c) budget left 1 (counted c ∷ []) (steps.fold-Count Bool (ℕ → Bool) (step_formed d k) (arm_formed d) c ∙ lt_true c k lt)
+  fine_count k c budget left le lt = from k (step.Count c) budget left 1 (counted c ∷ []) (steps.fold-Count Bool (ℕ
+      → Bool) (step_formed d k) (arm_formed d) c ∙ lt_true c k lt)
       (steps.fold-Count ℕ ℕ step_size arm_size c) (count_mentions c) (omega (arith, le)) (all_none (Written d kd)) (λ q. steps.fold-Count Bool Bool step_tells arm_tells c)
 
   -- ---- steps and arms, one after the other
@@ -239,7 +260,8 @@ module _ (d : Design) (kd : ProcessKind) where
   pub fine_none : (k left : ℕ) → AreFine d kd k [] left left
   fine_none k left = record { formed = refl; within = omega arith; here = all_none (Written d kd); quiet = λ q. refl }
 
-  pub fine_more : (k : ℕ) (x : Step) (xs : List Step) (budget mid left : ℕ) → AreFine d kd k (x ∷ []) budget mid → AreFine d kd k xs mid left → AreFine d kd k (x ∷ xs) budget left
+  pub fine_more : (k : ℕ) (x : Step) (xs : List Step) (budget mid left : ℕ) → AreFine d kd k (x ∷ []) budget mid → AreFine d kd k xs mid left
+      → AreFine d kd k (x ∷ xs) budget left
   fine_more k x xs budget mid left h y = record {
     formed = and_from (is_step d k x) (list_all (is_step d k) xs) (left_true (is_step d k x) true h.formed) y.formed;
     within = omega (arith, h.within, y.within, weights_append d (mentions_in x) (flat_map mentions_in xs), ap (weights d) (append-nil (mentions_in x)));
@@ -254,7 +276,8 @@ module _ (d : Design) (kd : ProcessKind) where
   items_here [] = all_none (Written d kd)
   items_here (item ∷ items) = items_here items
 
-  pub arms_more : (k w : ℕ) (arm : StepArm) (arms : List StepArm) (budget mid mid2 left : ℕ) → AreItemsSeen d w arm.items budget mid → AreFine d kd k arm.body mid mid2 → AreArmsFine d kd k w arms mid2 left
+  pub arms_more : (k w : ℕ) (arm : StepArm) (arms : List StepArm) (budget mid mid2 left : ℕ) → AreItemsSeen d w arm.items budget mid
+      → AreFine d kd k arm.body mid mid2 → AreArmsFine d kd k w arms mid2 left
       → AreArmsFine d kd k w (arm ∷ arms) budget left
   arms_more k w arm arms budget mid mid2 left i h y =
       let ms : List Mention = flat_map item_mentions arm.items in

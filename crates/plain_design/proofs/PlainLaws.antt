@@ -29,8 +29,10 @@ use Rattle.design_meaning.specs.Names.{is_name, IsBefore}
 use Rattle.design_meaning.specs.Targets.{var_named}
 use Rattle.design_meaning.specs.WellTyped.{is_var}
 use Rattle.design_meaning.specs.WellFormed.{is_step}
-use Rattle.design_meaning.specs.Sizes.{nodes, depth, node_size, node_depth, of_index, target_nodes, target_depth, greatest, steps_in, step_size, arm_size, step_depth, arm_depth, block_depth}
-use Rattle.design_meaning.specs.Mentions.{Mention, expression, destination, shown, counted, mentions_of, mention_nodes, mention_depth, mention_length, targets_of}
+use Rattle.design_meaning.specs.Sizes.{nodes, depth, node_size, node_depth, of_index, target_nodes, target_depth, greatest, steps_in, step_size, arm_size}
+use Rattle.design_meaning.specs.Sizes.{step_depth, arm_depth, block_depth}
+use Rattle.design_meaning.specs.Mentions.{Mention, expression, destination, shown, counted, mentions_of, mention_nodes, mention_depth, mention_length}
+use Rattle.design_meaning.specs.Mentions.{targets_of}
 use Rattle.design_meaning.specs.ValidVariables.{IsVariable, AreInputs, AreOutputs}
 use Rattle.design_meaning.specs.ValidProcesses.{IsProcess, kind_written, may_tell}
 use Rattle.design_meaning.specs.Valid.{toggle_place, IsValid, AreToggles, ArePoints}
@@ -61,7 +63,8 @@ tested f P h (x ∷ xs) ok = all_cons P x xs (h x (left_true (f x) (list_all f x
 pub no_variables : (left : ℕ) → ArePlainVariables [] left left
 no_variables left = record { variables = all_none IsVariable; inner = all_none IsInner; within = omega arith }
 
-pub more_variables : (v : Var) (vs : List Var) (budget mid left : ℕ) → IsPlainVariable v budget mid → ArePlainVariables vs mid left → ArePlainVariables (v ∷ vs) budget left
+pub more_variables : (v : Var) (vs : List Var) (budget mid left : ℕ) → IsPlainVariable v budget mid → ArePlainVariables vs mid left
+    → ArePlainVariables (v ∷ vs) budget left
 more_variables v vs budget mid left h k = record {
   variables = all_cons IsVariable v vs h.variable k.variables;
   inner = all_cons IsInner v vs h.inner k.inner;
@@ -129,7 +132,8 @@ some_steps = step_induction (λ x. 1 ≤ steps_in x)
     (omega (arith, steps.fold-Stop ℕ ℕ step_size arm_size))
     (λ c. omega (arith, steps.fold-Count ℕ ℕ step_size arm_size c))
 
-arms_flat : (arms : List StepArm) → AllByRecursion (ArmHas Flat) arms → greatest (map (fold-StepArm ℕ ℕ step_depth arm_depth) arms) ≤ 1 + total (map arm_steps arms)
+arms_flat : (arms : List StepArm) → AllByRecursion (ArmHas Flat) arms
+    → greatest (map (fold-StepArm ℕ ℕ step_depth arm_depth) arms) ≤ 1 + total (map arm_steps arms)
 arms_flat [] h = omega arith
 arms_flat (arm ∷ arms) h =
     omega (arith, arms_flat arms h.1, flat_all arm.body h.0, fold_out-StepArm ℕ ℕ step_depth arm_depth arm, fold_out-StepArm ℕ ℕ step_size arm_size arm)
@@ -211,7 +215,8 @@ module _ (d : Design) (k : ℕ) where
 
 -- ---- the whole
 
-module _ (x : Instrumented) (no_inputs : x.design.inputs ≡ []) (no_outputs : x.design.outputs ≡ []) (no_toggles : x.toggles ≡ []) (no_points : x.points ≡ []) where
+module _ (x : Instrumented) (no_inputs : x.design.inputs ≡ []) (no_outputs : x.design.outputs ≡ []) (no_toggles : x.toggles ≡ []) (no_points : x.points
+    ≡ []) where
   inputs_valid : All IsInner x.design.vars → AreInputs x.design
   inputs_valid inner =
       let none : input_vars x.design ≡ [] = ap (map (λ input. input.var)) no_inputs in

@@ -44,7 +44,8 @@ unfolding digits
 info_of_four = refl
 
 annotated_four : annotated_text options four (codes "s.v") source
-    ≡ text_of ((9 ∷ codes "// vcov annotation") ∷ (codes "%000009" ++ 9 ∷ codes "a") ∷ (codes " 000010" ++ 9 ∷ codes "b") ∷ (codes "%000009" ++ 9 ∷ codes "c") ∷ [])
+    ≡ text_of ((9 ∷ codes "// vcov annotation") ∷ (codes "%000009" ++ 9 ∷ codes "a") ∷ (codes " 000010" ++ 9 ∷ codes "b") ∷ (codes "%000009"
+    ++ 9 ∷ codes "c") ∷ [])
 unfolding digits
 annotated_four = refl
 
@@ -88,8 +89,13 @@ no_line = refl
 
 -- ---- a point behind its line
 
-with_point : annotated_text (record options { points = true }) ((key_of (s_v (codes "1") ++ (codes "t", codes "line") ∷ (codes "o", codes "block") ∷ []), 9) ∷ []) (codes "s.v") (text_of (codes "a" ∷ []))
-    ≡ text_of ((9 ∷ codes "// vcov annotation") ∷ (codes "%000009" ++ 9 ∷ codes "a") ∷ (codes "-000009" ++ 9 ∷ codes "point: type=line comment=block hier=") ∷ [])
+with_point : annotated_text (record options { points = true }) ((
+  key_of (s_v (codes "1")
+      ++ (codes "t", codes "line") ∷ (codes "o", codes "block") ∷ []),
+  9,
+) ∷ []) (codes "s.v") (text_of (codes "a" ∷ []))
+    ≡ text_of ((9 ∷ codes "// vcov annotation") ∷ (codes "%000009" ++ 9 ∷ codes "a") ∷ (codes "-000009"
+    ++ 9 ∷ codes "point: type=line comment=block hier=") ∷ [])
 unfolding digits
 with_point = refl
 

@@ -1,6 +1,7 @@
 -- The lines of source files that counts tell of (docs/formats.md, "Lines").
 -- Counts stand here in byte order of their keys.
-use Rattle.std.specs.Prelude.{ℕ, ◌+◌, ◌-◌, ◌==◌, ◌&&◌, ◌||◌, min, Bool, false, nat_lt, is_none, is_some, List, [], ◌∷◌, ◌++◌, map, filter, find, length, codes, Option, None, Some, option_and_then, option_to_list, if◌then◌else◌}
+use Rattle.std.specs.Prelude.{ℕ, ◌+◌, ◌-◌, ◌==◌, ◌&&◌, ◌||◌, min, Bool, false, nat_lt, is_none, is_some, List, [], ◌∷◌, ◌++◌, map, filter, find, length, codes}
+use Rattle.std.specs.Prelude.{Option, None, Some, option_and_then, option_to_list, if◌then◌else◌}
 use Rattle.std.specs.FinMap.{put}
 use Rattle.std.specs.List.{list_any, flat_map, filter_map, range_with_len}
 use Rattle.std.specs.Option.{option_map_or}

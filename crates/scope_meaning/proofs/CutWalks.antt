@@ -11,8 +11,11 @@ use Rattle.scope_meaning.specs.Scope.{Here, At, Given}
 use Rattle.scope_meaning.specs.Overrides.{givens}
 use Rattle.scope_meaning.specs.BlockNames.{block_name}
 use Rattle.scope_meaning.specs.Heads.{GenLoop, gen_loop, names_here, names_in_pass}
-use Rattle.scope_meaning.specs.Visits.{Visits, Visit, sees, an_item, a_turn, entered, made_at, module_entered, has_constant, past, with_next, module_scope, body_scope, past_header, ports_seen, names_declared}
-use Rattle.scope_meaning.specs.Walk.{AreHeader, ends_at, header, AreWalked, ends_before, goes_on, ends_inside, IsWalked, comes_to, region, instances, loop, choice, ArePasses, ends_at_test, pass, ends_in_block, ends_at_step, IsBlock, block, AreMade, made, ends_in, IsModule, entered_module, ends_in_header}
+use Rattle.scope_meaning.specs.Visits.{Visits, Visit, sees, an_item, a_turn, entered, made_at, module_entered, has_constant, past, with_next, module_scope}
+use Rattle.scope_meaning.specs.Visits.{body_scope, past_header, ports_seen, names_declared}
+use Rattle.scope_meaning.specs.Walk.{AreHeader, ends_at, header, AreWalked, ends_before, goes_on, ends_inside, IsWalked, comes_to, region, instances, loop}
+use Rattle.scope_meaning.specs.Walk.{choice, ArePasses, ends_at_test, pass, ends_in_block, ends_at_step, IsBlock, block, AreMade, made, ends_in, IsModule}
+use Rattle.scope_meaning.specs.Walk.{entered_module, ends_in_header}
 use Rattle.scope_meaning.specs.ScopeTrees.{IsWalkOf}
 use Rattle.scope_meaning.proofs.WalkLaws.{walks_agree, Front, never, same, shorter, headers, one, blocks, modules}
 
@@ -73,7 +76,8 @@ mutual
       after (sees (an_item here at a) ∷ []) (sees (an_item here at a) ∷ []) vs ws refl
       (cut_blocks x (subst (λ (z : ℕ × GenBody). IsBlock design here at (block_name (names_declared here) (at.construct + 1) (out-GenBody z.1).name) None z.0 (out-GenBody z.1).items ws k' false) q y))
 
-  cut_passes : {design : List Module} {here : Here} {p : Place} {l : GenLoop} {at : At} {n : ℤ} {vs : Visits} {next : ℕ} → ArePasses design here p l at n vs next false
+  cut_passes : {design : List Module} {here : Here} {p : Place} {l : GenLoop} {at : At} {n : ℤ} {vs : Visits} {next : ℕ}
+      → ArePasses design here p l at n vs next false
       → {ws : Visits} {k : ℕ} → ArePasses design here p l at n ws k false → Meet vs ws
   cut_passes ends_at_test ends_at_test = inl ([], refl)
   cut_passes ends_at_test (pass f y t q) = inr (_, refl)
@@ -163,12 +167,14 @@ mutual
   cut_modules {design} {n} {parent} {path} {above} {given} {number} {m} (entered_module {by = by} {vs = vs} {ws = us} h x) (ends_in_header {by = by'} {vs = vs'} i) =
       let scope : Here = module_scope n path above given number m in
       let e : Visits = module_entered n parent path number m in
-      let f : (rest : Visits) × (vs ++ (ports_seen scope by m.ports ++ us) ≡ vs' ++ rest) = shorter vs vs' (ports_seen scope by m.ports ++ us) by by' (headers h i) in
+      let f : (rest : Visits) × (vs ++ (ports_seen scope by m.ports ++ us) ≡ vs' ++ rest) = shorter vs vs' (ports_seen scope by m.ports
+      ++ us) by by' (headers h i) in
       inl (f.0, ap (λ (a : Visits). e ++ a) (append_assoc vs (ports_seen scope by m.ports) us ∙ f.1))
   cut_modules {design} {n} {parent} {path} {above} {given} {number} {m} (ends_in_header {by = by'} {vs = vs'} i) (entered_module {by = by} {vs = vs} {ws = us} h x) =
       let scope : Here = module_scope n path above given number m in
       let e : Visits = module_entered n parent path number m in
-      let f : (rest : Visits) × (vs ++ (ports_seen scope by m.ports ++ us) ≡ vs' ++ rest) = shorter vs vs' (ports_seen scope by m.ports ++ us) by by' (headers h i) in
+      let f : (rest : Visits) × (vs ++ (ports_seen scope by m.ports ++ us) ≡ vs' ++ rest) = shorter vs vs' (ports_seen scope by m.ports
+      ++ us) by by' (headers h i) in
       inr (f.0, ap (λ (a : Visits). e ++ a) (append_assoc vs (ports_seen scope by m.ports) us ∙ f.1))
   cut_modules {n = n} {parent = parent} {path = path} {number = number} {m = m} (ends_in_header {vs = vs} h) (ends_in_header {vs = vs'} i) =
       after (module_entered n parent path number m) (module_entered n parent path number m) vs vs' refl (cut_headers h i)

@@ -115,7 +115,8 @@ its_names =
     ∷ declare genvar (codes "i") ∷ declare scope_name (codes "g") ∷ []
 
 abbrev of_assign : (p : Place) (target value : Expr) → declares (assign p target value) ≡ []
-of_assign p target value = declares-item p (i.Assign (record { target = target; value = value } ∷ [])) ∙ says-Assign (record { target = target; value = value } ∷ [])
+of_assign p target value = declares-item p (i.Assign (record { target = target; value = value } ∷ []))
+    ∙ says-Assign (record { target = target; value = value } ∷ [])
 
 of_loop : declares the_loop ≡ declare scope_name (codes "g") ∷ []
 of_loop =
@@ -171,7 +172,8 @@ said op n k = node (constants (λ (x : List ℕ). None)) (lo.Binary op (of_name 
 tests : (a : At) (n : ℤ) → test_of (names_in_pass scope a (codes "i") n) below_4 ≡ option_of (λ m. holds m []) (meaning_in (said binary.Less n 4))
 tests a n = ap (λ (x : Read). option_of (λ m. holds m []) (meaning_in x)) (with_number (names_in_pass scope a (codes "i") n) binary.Less (codes "i") (Some (genvar_constant (codes "i") n)) 32 true 4 (has_value a n))
 
-steps : (a : At) (n : ℤ) → genvar_value (names_in_pass scope a (codes "i") n) plus_1 ≡ option_of (λ m. v.signed 32 (assigned 32 m)) (meaning_in (said binary.Add n 1))
+steps : (a : At) (n : ℤ) → genvar_value (names_in_pass scope a (codes "i") n) plus_1
+    ≡ option_of (λ m. v.signed 32 (assigned 32 m)) (meaning_in (said binary.Add n 1))
 steps a n = ap (λ (x : Read). option_of (λ m. v.signed 32 (assigned 32 m)) (meaning_in x)) (with_number (names_in_pass scope a (codes "i") n) binary.Add (codes "i") (Some (genvar_constant (codes "i") n)) 32 true 1 (has_value a n))
 
 test_3 : (a : At) → test_of (names_in_pass scope a (codes "i") (pos 3)) below_4 ≡ Some true

@@ -122,7 +122,8 @@ given_by_name names = ap given_two (read-Number (constants names) 32 true 2 0)
 
 given_in_order : (names : Names) → givens names s w_in_place ≡ two ∷ []
 given_in_order names =
-    ap (λ (ns : List (List ℕ)). filter_map (given_of names) (in_order ns (number 2 ∷ []))) its_parameters ∙ ap given_two (read-Number (constants names) 32 true 2 0)
+    ap (λ (ns : List (List ℕ)). filter_map (given_of names) (in_order ns (number 2 ∷ []))) its_parameters
+    ∙ ap given_two (read-Number (constants names) 32 true 2 0)
 
 -- ---- the walk
 
@@ -154,7 +155,11 @@ header_item = layer-item (at 1 13) (i.Parameter false form.Plain w_is_1) ∙ i.o
 s_made : (n : ℕ) (parent : Option ℕ) (path : List ℕ) (above : List (List ℕ)) (given : List Given) (cs : List Constant)
     → constants_of (s_scope n path above given) (start n 0) false form.Plain w_is_1 ≡ Some cs
     → (vs : Visits) × IsModule design n parent path above given 0 s vs (n + 1) true
-s_made n parent path above given cs e = (_, entered_module (header (ap (declared_constants (s_scope n path above given) (start n 0)) header_item ∙ e) no_more) (goes_on (plain plain_always) no_items))
+s_made n parent path above given cs e = (
+  _,
+  entered_module (header (ap (declared_constants (s_scope n path above given) (start n 0)) header_item
+      ∙ e) no_more) (goes_on (plain plain_always) no_items),
+)
 
 -- an item that makes one instance of `s`, given these values and so having these constants
 abbrev behind : At → Item → At
@@ -180,7 +185,8 @@ item_walked here a p params n ports g cs is_given e =
     let q : Place = item_place (one_of p params n ports) in (
       _,
       by_layer (instance_item p params n ports) (instances found_s
-          (subst (λ (x : List Given). AreMade design here a q 0 s x a.next (one ∷ []) (made_at here a q a.next s one ++ m.0 ++ []) (a.next + 1) true) (sym is_given)
+          (subst (λ (x : List Given). AreMade design here a q 0 s x a.next (one ∷ []) (made_at here a q a.next s one ++ m.0
+          ++ []) (a.next + 1) true) (sym is_given)
           (made m.1 none_left))),
     )
 

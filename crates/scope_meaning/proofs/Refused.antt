@@ -79,7 +79,8 @@ standing_there = standing_item scope place (at 23) (codes "u" ∷ []) (o.Instanc
 
 last_rules : refusal_at design standing_there ≡ Some (fault.Recursive (at 23))
 unfolding module_from
-last_rules = ap (λ (ns : List (List ℕ)). first_of standing_there (cond (are_bad (ns ++ []) (conns.Ordered []) || false) (Some bad_override) (Some recursive))) no_parameters
+last_rules = ap (λ (ns : List (List ℕ)). first_of standing_there (cond (are_bad (ns
+    ++ []) (conns.Ordered []) || false) (Some bad_override) (Some recursive))) no_parameters
 
 refused : refusal design (sees (an_item scope place itself)) ≡ Some (fault.Recursive (at 23))
 unfolding module_from

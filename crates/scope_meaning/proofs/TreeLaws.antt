@@ -1,12 +1,14 @@
 -- A design with a tree is refused nowhere, and one without has one first fault.
-use Rattle.std.proofs.Common.{◌≡◌, ◌<◌, inl, inr, ℕ, Bool, true, false, cond, List, [], ◌∷◌, ◌++◌, map, Option, Some, None, refl, subst, ap, sym, ◌∙◌, arith, append_assoc}
+use Rattle.std.proofs.Common.{◌≡◌, ◌<◌, inl, inr, ℕ, Bool, true, false, cond, List, [], ◌∷◌, ◌++◌, map, Option, Some, None, refl, subst, ap, sym, ◌∙◌, arith}
+use Rattle.std.proofs.Common.{append_assoc}
 use Rattle.std.proofs.lemmas.Bool.{ltb-true}
 use Rattle.std.specs.List.{find}
 use Rattle.elab_types.specs.declared.elab_fault.ElabFault.{ElabFault}
 use Rattle.vlog_tree.specs.declared.module.Module.{Module}
 use Rattle.scope_meaning.specs.Visits.{Visits, Visit}
 use Rattle.scope_meaning.specs.Standing.{Standing, standing}
-use Rattle.scope_meaning.specs.ScopeRules.{ScopeRule, duplicate, not_constant, bad_select, bad_range, width_past_128, bad_genvar, unknown_module, bad_override, recursive, rules, refuses, refusal, first_of, memory_fault, has_large_memory, Refuses, by_rule, by_memory, by_scopes}
+use Rattle.scope_meaning.specs.ScopeRules.{ScopeRule, duplicate, not_constant, bad_select, bad_range, width_past_128, bad_genvar, unknown_module, bad_override}
+use Rattle.scope_meaning.specs.ScopeRules.{recursive, rules, refuses, refusal, first_of, memory_fault, has_large_memory, Refuses, by_rule, by_memory, by_scopes}
 use Rattle.scope_meaning.specs.ScopeTrees.{modules, IsSomeRefusal, IsFirstRefusal, early_fault, later_or, TreeExcludesFault, OneFirstFault}
 use Rattle.scope_meaning.proofs.WalkLaws.{walks_agree, none_some, same}
 use Rattle.scope_meaning.proofs.CutWalks.{Meet, one_is_front}
@@ -64,10 +66,12 @@ refused design v found (by_scopes {entry} h) e = let b : entry.number < 65536 = 
 pub tree_excludes_fault : TreeExcludesFault
 tree_excludes_fault files top tree found t f =
     let later : IsSomeRefusal (modules files) top found = subst (later_or (IsSomeRefusal (modules files) top found) found) t.early f in
-    let agree : (rest : Visits) × (t.vs ≡ (later.before ++ later.at ∷ later.after) ++ rest) = walks_agree (modules files) top t.vs (later.before ++ later.at ∷ later.after) later.whole t.walk later.walk in
+    let agree : (rest : Visits) × (t.vs ≡ (later.before ++ later.at ∷ later.after) ++ rest) = walks_agree (modules files) top t.vs (later.before
+    ++ later.at ∷ later.after) later.whole t.walk later.walk in
     let whole : t.vs ≡ later.before ++ later.at ∷ (later.after ++ agree.0) = agree.1 ∙ append_assoc later.before (later.at ∷ later.after) agree.0 in
     refused (modules files) later.at found later.refused
-    (calm_at (refusal (modules files)) later.before (later.after ++ agree.0) later.at (subst (λ (vs : Visits). map (refusal (modules files)) vs ≡ map (λ x. None) vs) whole t.calm))
+    (calm_at (refusal (modules files)) later.before (later.after ++ agree.0) later.at (subst (λ (vs : Visits). map (refusal (modules files)) vs
+    ≡ map (λ x. None) vs) whole t.calm))
 
 -- the first of a list with a fault is one
 first_is_one : (f : Visit → Option ElabFault) (b1 b2 : Visits) (a1 a2 : Visit) (c1 c2 : Visits) (x y : ElabFault)
@@ -78,7 +82,8 @@ first_is_one f [] (z ∷ b2) a1 a2 c1 c2 x y e m n p q = none_some x (sym (ap (h
 first_is_one f (z ∷ b1) [] a1 a2 c1 c2 x y e m n p q = none_some y (sym (ap (head_of None) m) ∙ ap f (ap (head_of z) e) ∙ q)
 first_is_one f (z ∷ b1) (z' ∷ b2) a1 a2 c1 c2 x y e m n p q = first_is_one f b1 b2 a1 a2 c1 c2 x y (ap tail_of e) (ap tail_of m) (ap tail_of n) p q
 
-one_refusal : (design : List Module) (top : List ℕ) (found other : ElabFault) → IsFirstRefusal design top found → IsFirstRefusal design top other → found ≡ other
+one_refusal : (design : List Module) (top : List ℕ) (found other : ElabFault) → IsFirstRefusal design top found → IsFirstRefusal design top other
+    → found ≡ other
 one_refusal design top found other a b = by_front (one_is_front a.walk b.walk)
   where
     by_front : Meet (a.before ++ a.at ∷ a.after) (b.before ++ b.at ∷ b.after) → found ≡ other

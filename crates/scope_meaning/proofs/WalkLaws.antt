@@ -1,5 +1,6 @@
 -- Every walk through a design is a front of the whole one.
-use Rattle.std.proofs.Common.{◌≡◌, ℕ, ◌+◌, Bool, true, false, List, [], ◌∷◌, ◌++◌, map, Option, Some, None, refl, subst, ap, sym, ◌∙◌, ℤ, append_assoc, append-nil}
+use Rattle.std.proofs.Common.{◌≡◌, ℕ, ◌+◌, Bool, true, false, List, [], ◌∷◌, ◌++◌, map, Option, Some, None, refl, subst, ap, sym, ◌∙◌, ℤ, append_assoc}
+use Rattle.std.proofs.Common.{append-nil}
 use Rattle.vlog_tree.specs.declared.item.Item.{Item}
 use Rattle.vlog_tree.specs.declared.item.Instance.{Instance}
 use Rattle.vlog_tree.specs.declared.item.GenBody.{GenBody, out-GenBody}
@@ -11,9 +12,12 @@ use Rattle.scope_meaning.specs.Scope.{Here, At, Given}
 use Rattle.scope_meaning.specs.Overrides.{givens}
 use Rattle.scope_meaning.specs.BlockNames.{block_name}
 use Rattle.scope_meaning.specs.Heads.{GenLoop, gen_loop, names_here, names_in_pass}
-use Rattle.scope_meaning.specs.Visits.{Visits, Visit, sees, an_item, a_turn, entered, made_at, module_entered, has_row, has_constant, past, with_next, module_scope, body_scope, past_header, ports_seen, names_declared}
+use Rattle.scope_meaning.specs.Visits.{Visits, Visit, sees, an_item, a_turn, entered, made_at, module_entered, has_row, has_constant, past, with_next}
+use Rattle.scope_meaning.specs.Visits.{module_scope, body_scope, past_header, ports_seen, names_declared}
 use Rattle.scope_meaning.specs.ScopeTrees.{IsWalkOf, WalksAgree}
-use Rattle.scope_meaning.specs.Walk.{AreHeader, no_more, ends_at, header, AreWalked, no_items, ends_before, goes_on, ends_inside, IsWalked, comes_to, plain, parameters, region, instances, loop, choice, no_choice, ArePasses, ends_at_test, last_test, pass, ends_in_block, ends_at_step, IsBlock, block, AreMade, none_left, made, ends_in, IsModule, entered_module, ends_in_header}
+use Rattle.scope_meaning.specs.Walk.{AreHeader, no_more, ends_at, header, AreWalked, no_items, ends_before, goes_on, ends_inside, IsWalked, comes_to, plain}
+use Rattle.scope_meaning.specs.Walk.{parameters, region, instances, loop, choice, no_choice, ArePasses, ends_at_test, last_test, pass, ends_in_block}
+use Rattle.scope_meaning.specs.Walk.{ends_at_step, IsBlock, block, AreMade, none_left, made, ends_in, IsModule, entered_module, ends_in_header}
 
 -- the second is the first, or where it isn't whole a front of it
 abbrev pub Front : {X : Type 0} → Visits → Visits → X → X → Bool → Type 0
@@ -120,7 +124,8 @@ mutual
   one (no_choice e) (choice f y) = none_some _ (same _ _ (sym e ∙ f))
   one (no_choice e) (no_choice f) = (refl, refl)
 
-  pub passes : {design : List Module} {here : Here} {p : Place} {l : GenLoop} {at : At} {n : ℤ} {vs : Visits} {next : ℕ} → ArePasses design here p l at n vs next true
+  pub passes : {design : List Module} {here : Here} {p : Place} {l : GenLoop} {at : At} {n : ℤ} {vs : Visits} {next : ℕ}
+      → ArePasses design here p l at n vs next true
       → {ws : Visits} {k : ℕ} {w : Bool} → ArePasses design here p l at n ws k w → Front vs ws next k w
   passes (last_test e) ends_at_test = ([], refl)
   passes (last_test e) (last_test f) = (refl, refl)
@@ -181,7 +186,8 @@ mutual
   modules {design} {n} {parent} {path} {above} {given} {number} {m} (entered_module {by = by} {to = to} {vs = vs} {ws = us} h x) (ends_in_header {by = by'} {vs = vs'} i) =
       let scope : Here = module_scope n path above given number m in
       let e : Visits = module_entered n parent path number m in
-      let f : (rest : Visits) × (vs ++ (ports_seen scope by m.ports ++ us) ≡ vs' ++ rest) = shorter vs vs' (ports_seen scope by m.ports ++ us) by by' (headers h i) in
+      let f : (rest : Visits) × (vs ++ (ports_seen scope by m.ports ++ us) ≡ vs' ++ rest) = shorter vs vs' (ports_seen scope by m.ports
+      ++ us) by by' (headers h i) in
       (f.0, ap (λ (a : Visits). e ++ a) (append_assoc vs (ports_seen scope by m.ports) us ∙ f.1))
 
 -- Every walk through a design is a front of the whole one.

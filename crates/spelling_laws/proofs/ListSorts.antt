@@ -16,7 +16,8 @@ module _ {P M : Type 0} (fits : P → M → Bool) (sort : M → Bool) where
   pub sorted_less : {A : Type 0} (s : A → List M) (most less : ℕ) → less ≤ most → Sorted most s → Sorted less s
   sorted_less s most less small h gs m n few v w = h gs m n (omega arith) v w
 
-  pub sorted_via : (A B : Type 0) (from : B → A) (sA : A → List M) (sB : B → List M) → ((b : B) → sB b ≡ sA (from b)) → (most : ℕ) → Sorted most sA → Sorted most sB
+  pub sorted_via : (A B : Type 0) (from : B → A) (sA : A → List M) (sB : B → List M) → ((b : B) → sB b ≡ sA (from b)) → (most : ℕ) → Sorted most sA
+      → Sorted most sB
   sorted_via A B from sA sB alike most h gs m n few v w = h gs m n few (back m v) (back n w)
     where
       back : (m : M) → Awaits fits sB gs m → Awaits fits sA gs m
@@ -61,7 +62,8 @@ module _ {P M : Type 0} (fits : P → M → Bool) (sort : M → Bool) where
     leads ms h t (x ∷ front) more m e s f = absurd (true≢false (sym f))
 
     -- the first piece of marks that go on
-    fits_first : (g : P) (gs : List P) (ms : List M) (h : M) (t front more : List M) (m : M) → ms ≡ h ∷ t → ms ≡ front ++ m ∷ more → all_fit fits (g ∷ gs) front ≡ true
+    fits_first : (g : P) (gs : List P) (ms : List M) (h : M) (t front more : List M) (m : M) → ms ≡ h ∷ t → ms ≡ front ++ m ∷ more
+        → all_fit fits (g ∷ gs) front ≡ true
         → fits g h ≡ true
     fits_first g gs ms h t [] more m e s f = absurd (true≢false (sym f))
     fits_first g gs ms h t (x ∷ front) more m e s f = ap (fits g) (sym (ap (head_or h) (sym s ∙ e))) ∙ first_true (fits g x) _ f
@@ -130,7 +132,8 @@ module _ {P M : Type 0} (fits : P → M → Bool) (sort : M → Bool) where
       up_to : (k : ℕ) → k ≤ most → (s : S) → Sorted k (ended_marks spelled next ends s)
       up_to zero small s = at_front s
       up_to (suc k) small s =
-          sorted_via ((o : Option A) × More o) (List A) from (λ p. end_or spelled ends s p.0 ++ more_marks s p.0 p.1) (ended_marks spelled next ends s) (alike s) (suc k)
+          sorted_via ((o : Option A) × More o) (List A) from (λ p. end_or spelled ends s p.0
+          ++ more_marks s p.0 p.1) (ended_marks spelled next ends s) (alike s) (suc k)
           (sorts_pair fits (Option A) More (end_or spelled ends s) (more_marks s) (apart s) (suc k) k (λ o. some_mark s o k) sort
           (sorted_less (end_or spelled ends s) most (suc k) small (each s)) (rest (λ t. up_to k (omega arith) t)))
         where

@@ -4,7 +4,8 @@ use mathlib.Core.Logic.{inl, inr}
 use mathlib.Core.Path.{sym, ap, subst, ◌∙◌}
 use native.Mathlib.Omega.{arith}
 use Rattle.spelling_laws.specs.Spelled.{all_fit, Apart, Awaits, OneSort}
-use Rattle.spelling_laws.proofs.Fitting.{cut_pieces, cut_marks, same_length, Levi, first_longer, first_shorter, levi, assoc, length-joined, cancel, head_or, tail_of, no_more}
+use Rattle.spelling_laws.proofs.Fitting.{cut_pieces, cut_marks, same_length, Levi, first_longer, first_shorter, levi, assoc, length-joined, cancel, head_or}
+use Rattle.spelling_laws.proofs.Fitting.{tail_of, no_more}
 use Rattle.spelling_laws.proofs.Then.{Pair}
 
 module _ {P M : Type 0} (fits : P → M → Bool) (sort : M → Bool) (V : Type 0) (mark : V → M) (same : (v w : V) → sort (mark v) ≡ sort (mark w)) where

@@ -4,7 +4,8 @@ use mathlib.Core.Logic.{inl, inr}
 use mathlib.Core.Path.{sym, ap, subst, ◌∙◌}
 use native.Mathlib.Omega.{arith}
 use Rattle.spelling_laws.specs.Spelled.{all_fit, Fronts, ApartAt, Apart, Awaits, NoneFits, IsRead, IsWrong}
-use Rattle.spelling_laws.proofs.Fitting.{CutPieces, CutMarks, join, cut_pieces, cut_marks, same_length, Levi, first_longer, first_shorter, levi, assoc, length-joined, cancel, head_or, no_more}
+use Rattle.spelling_laws.proofs.Fitting.{CutPieces, CutMarks, join, cut_pieces, cut_marks, same_length, Levi, first_longer, first_shorter, levi, assoc}
+use Rattle.spelling_laws.proofs.Fitting.{length-joined, cancel, head_or, no_more}
 
 abbrev pub Pair : (A : Type 0) → (A → Type 0) → Type 0
 Pair A B = (a : A) × B a

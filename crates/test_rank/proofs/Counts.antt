@@ -1,4 +1,5 @@
-use Rattle.std.proofs.Common.{◌≡◌, ◌≢◌, ℕ, zero, suc, ◌+◌, ◌<◌, ◌≤◌, true, false, cond, ◌||◌, eqb, ltb, length, get_or, set, take, List, [], ◌∷◌, ◌++◌, filter, arith, add-one, get_or-set_other, get_or-set_same, refl, sym, ◌∙◌, ap, subst, ⊎_elim}
+use Rattle.std.proofs.Common.{◌≡◌, ◌≢◌, ℕ, zero, suc, ◌+◌, ◌<◌, ◌≤◌, true, false, cond, ◌||◌, eqb, ltb, length, get_or, set, take, List, [], ◌∷◌, ◌++◌, filter}
+use Rattle.std.proofs.Common.{arith, add-one, get_or-set_other, get_or-set_same, refl, sym, ◌∙◌, ap, subst, ⊎_elim}
 use Rattle.std.proofs.Math.Seq.{take-suc}
 use Rattle.std.proofs.lemmas.Bool.{cases_lt, false≢true, true≢false}
 use Rattle.std.proofs.lemmas.Bool.Decides.{nat_tests}
@@ -24,9 +25,11 @@ pub count-below : (end n : ℕ) (xs : List ℕ) → n < end → count n (filter 
 count-below end n [] h = refl
 count-below end n (x ∷ xs) h =
     let rest = count-below end n xs h in
-    elim (ltb x end) as (λ t. ltb x end ≡ t → count n (cond t (x ∷ filter (λ t. ltb t end) xs) (filter (λ t. ltb t end) xs)) ≡ cond (eqb n x) 1 0 + count n xs) [
+    elim (ltb x end) as (λ t. ltb x end ≡ t → count n (cond t (x ∷ filter (λ t. ltb t end) xs) (filter (λ t. ltb t end) xs))
+    ≡ cond (eqb n x) 1 0 + count n xs) [
       | true ↦ λ e. omega arith
-      | false ↦ λ e. let ne : n ≢ x = λ same. false≢true (sym e ∙ (subst (λ (k : ℕ). ltb k end ≡ true) same (let l : ltb n end ≡ true = grind (arith, nat_tests) in l))) in
+      | false ↦ λ e. let ne : n ≢ x = λ same. false≢true (sym e
+          ∙ (subst (λ (k : ℕ). ltb k end ≡ true) same (let l : ltb n end ≡ true = grind (arith, nat_tests) in l))) in
           rw (eqb-other n x ne) (omega arith)
     ] refl
 
@@ -35,7 +38,8 @@ count-gone end n [] h = refl
 count-gone end n (x ∷ xs) h =
     let rest = count-gone end n xs h in
     elim (ltb x end) as (λ t. ltb x end ≡ t → count n (cond t (x ∷ filter (λ t. ltb t end) xs) (filter (λ t. ltb t end) xs)) ≡ 0) [
-      | true ↦ λ e. let ne : n ≢ x = λ same. true≢false (sym e ∙ (subst (λ (k : ℕ). ltb k end ≡ false) same (let l : ltb n end ≡ false = grind (arith, nat_tests) in l))) in
+      | true ↦ λ e. let ne : n ≢ x = λ same. true≢false (sym e
+          ∙ (subst (λ (k : ℕ). ltb k end ≡ false) same (let l : ltb n end ≡ false = grind (arith, nat_tests) in l))) in
           rw (eqb-other n x ne) (omega arith)
       | false ↦ λ e. omega arith
     ] refl
@@ -91,29 +95,37 @@ get_or-empty_pushed (xs ∷ xss) zero = refl
 get_or-empty_pushed (xs ∷ xss) (suc k) = get_or-empty_pushed xss k
 
 -- where a test counts at a point, the point is below the length of the index
-pub point-within : (covers : Covers) (index : List (List ℕ)) (test point : ℕ) → IsIndex covers index → 0 < count point (points_of covers test) → point < length index
+pub point-within : (covers : Covers) (index : List (List ℕ)) (test point : ℕ) → IsIndex covers index → 0 < count point (points_of covers test)
+    → point < length index
 point-within covers index test point is h =
     let at = is test point in
-    ⊎_elim (λ (l : point < length index). l) (λ (l : length index ≤ point). let none = ap (count test) (get_or-past index point l) in absurd (omega arith)) (cases_lt point (length index))
+    ⊎_elim (λ (l : point < length index). l) (λ (l : length index ≤ point). let none = ap (count test) (get_or-past index point l) in
+    absurd (omega arith)) (cases_lt point (length index))
 
 -- an index with a test more at each point of a list
 pub added-none : (test : ℕ) (old : List (List ℕ)) → HasAdded test [] old old
-added-none test old t p = elim (eqb t test) as (λ b. count t (tests_at old p) ≡ count t (tests_at old p) + cond b 0 0) [ true ↦ omega arith | false ↦ omega arith ]
+added-none test old t p = elim (eqb t test) as (λ b. count t (tests_at old p)
+    ≡ count t (tests_at old p) + cond b 0 0) [ true ↦ omega arith | false ↦ omega arith ]
 
-pub added-same : (test : ℕ) (points : List ℕ) (old mid new : List (List ℕ)) → HasAdded test points old mid → ((p : ℕ) → tests_at new p ≡ tests_at mid p) → HasAdded test points old new
+pub added-same : (test : ℕ) (points : List ℕ) (old mid new : List (List ℕ)) → HasAdded test points old mid → ((p : ℕ) → tests_at new p ≡ tests_at mid p)
+    → HasAdded test points old new
 added-same test points old mid new has same t p = ap (count t) (same p) ∙ has t p
 
-pub added-more : (test : ℕ) (points : List ℕ) (point : ℕ) (old mid new : List (List ℕ)) → HasAdded test points old mid → HasAdded test (point ∷ []) mid new → HasAdded test (points ++ point ∷ []) old new
+pub added-more : (test : ℕ) (points : List ℕ) (point : ℕ) (old mid new : List (List ℕ)) → HasAdded test points old mid → HasAdded test (point ∷ []) mid new
+    → HasAdded test (points ++ point ∷ []) old new
 added-more test points point old mid new has more t p =
     let a = has t p in
     let b = more t p in
     let joined = count-append p points (point ∷ []) in
-    b ∙ ap (λ (n : ℕ). n + cond (eqb t test) (count p (point ∷ [])) 0) a ∙ elim (eqb t test) as (λ q. count t (tests_at old p) + cond q (count p points) 0 + cond q (count p (point ∷ [])) 0 ≡ count t (tests_at old p) + cond q (count p (points ++ point ∷ [])) 0) [
+    b ∙ ap (λ (n : ℕ). n + cond (eqb t test) (count p (point ∷ [])) 0) a
+    ∙ elim (eqb t test) as (λ q. count t (tests_at old p) + cond q (count p points) 0 + cond q (count p (point ∷ [])) 0
+    ≡ count t (tests_at old p) + cond q (count p (points ++ point ∷ [])) 0) [
       | true ↦ omega arith
       | false ↦ omega arith
     ]
 
-pub added-others : (test : ℕ) (points : List ℕ) (old new : List (List ℕ)) → HasAdded test points old new → (t p : ℕ) → t ≢ test → count t (tests_at new p) ≡ count t (tests_at old p)
+pub added-others : (test : ℕ) (points : List ℕ) (old new : List (List ℕ)) → HasAdded test points old new → (t p : ℕ) → t ≢ test
+    → count t (tests_at new p) ≡ count t (tests_at old p)
 added-others test points old new has t p ne = has t p ∙ (rw (eqb-other t test ne) (omega arith))
 
 -- one list in place of another
@@ -124,12 +136,15 @@ get_or-set_lists xss k j ys h =
       | false ↦ λ e. let ne : j ≢ k = λ same. false≢true (sym e ∙ ap (λ (i : ℕ). eqb i k) same ∙ eqb-same k) in get_or-set_other xss k j ys [] ne
     ] refl
 
-pub put-added : (index : List (List ℕ)) (point test : ℕ) → point < length index → HasAdded test (point ∷ []) index (set index point (tests_at index point ++ test ∷ []))
+pub put-added : (index : List (List ℕ)) (point test : ℕ) → point < length index
+    → HasAdded test (point ∷ []) index (set index point (tests_at index point ++ test ∷ []))
 put-added index point test within t p =
     ap (count t) (get_or-set_lists index point p (tests_at index point ++ test ∷ []) within)
-    ∙ elim (eqb p point) as (λ b. eqb p point ≡ b → count t (cond b (tests_at index point ++ test ∷ []) (tests_at index p)) ≡ count t (tests_at index p) + cond (eqb t test) (cond b 1 0 + 0) 0) [
+    ∙ elim (eqb p point) as (λ b. eqb p point ≡ b → count t (cond b (tests_at index point ++ test ∷ []) (tests_at index p))
+    ≡ count t (tests_at index p) + cond (eqb t test) (cond b 1 0 + 0) 0) [
       | true ↦ λ e. count-pushed t (tests_at index point) test ∙ ap (λ (k : ℕ). count t (tests_at index k) + cond (eqb t test) 1 0) (sym (eqb-is p point e))
-      | false ↦ λ e. elim (eqb t test) as (λ b. count t (tests_at index p) ≡ count t (tests_at index p) + cond b 0 0) [ true ↦ omega arith | false ↦ omega arith ]
+      | false ↦ λ e. elim (eqb t test) as (λ b. count t (tests_at index p)
+          ≡ count t (tests_at index p) + cond b 0 0) [ true ↦ omega arith | false ↦ omega arith ]
     ] refl
 
 -- in front of a place a number stands less often than in the whole
@@ -147,11 +162,14 @@ length_pushed [] ys = refl
 length_pushed (xs ∷ xss) ys = let rest = length_pushed xss ys in omega arith
 
 -- the index of a test more
-pub index-pushed : (covers : Covers) (points : List ℕ) (old new : List (List ℕ)) → IsIndex covers old → HasAdded (length covers) points old new → IsIndex (covers ++ points ∷ []) new
+pub index-pushed : (covers : Covers) (points : List ℕ) (old new : List (List ℕ)) → IsIndex covers old → HasAdded (length covers) points old new
+    → IsIndex (covers ++ points ∷ []) new
 index-pushed covers points old new is has t p =
     has t p ∙ ap (λ (n : ℕ). n + cond (eqb t (length covers)) (count p points) 0) (is t p)
-    ∙ ⊎_elim (λ (l : t < length covers). let ne : t ≢ length covers = λ e. absurd (omega arith) in rw (eqb-other t (length covers) ne, get_or-before covers points t l) (omega arith))
-    (λ (ge : length covers ≤ t). elim (eqb t (length covers)) as (λ b. eqb t (length covers) ≡ b → count p (points_of covers t) + cond b (count p points) 0 ≡ count p (points_of (covers ++ points ∷ []) t)) [
+    ∙ ⊎_elim (λ (l : t < length covers). let ne : t ≢ length covers = λ e. absurd (omega arith) in
+    rw (eqb-other t (length covers) ne, get_or-before covers points t l) (omega arith))
+    (λ (ge : length covers ≤ t). elim (eqb t (length covers)) as (λ b. eqb t (length covers) ≡ b
+    → count p (points_of covers t) + cond b (count p points) 0 ≡ count p (points_of (covers ++ points ∷ []) t)) [
       | true ↦ λ e. rw (get_or-past covers t ge, get_or-last covers points t (eqb-is t (length covers) e)) (omega arith)
       | false ↦ λ e. let ne : t ≢ length covers = λ same. false≢true (sym e ∙ ap (λ (k : ℕ). eqb k (length covers)) same ∙ eqb-same (length covers)) in
           let past : length (covers ++ points ∷ []) ≤ t = let one = length_pushed covers points in omega arith in
@@ -164,5 +182,6 @@ pub index-free : (covers : Covers) (index : List (List ℕ)) → IsIndex covers 
 index-free covers index is t p ge = is t p ∙ ap (count p) (get_or-past covers t ge)
 
 -- an index that answers alike is one of the same tests
-pub index-same : (covers : Covers) (old new : List (List ℕ)) → IsIndex covers old → ((t p : ℕ) → count t (tests_at new p) ≡ count t (tests_at old p)) → IsIndex covers new
+pub index-same : (covers : Covers) (old new : List (List ℕ)) → IsIndex covers old → ((t p : ℕ) → count t (tests_at new p) ≡ count t (tests_at old p))
+    → IsIndex covers new
 index-same covers old new is same t p = same t p ∙ is t p

@@ -9,7 +9,8 @@ pub uncovered-same : (c d : ℕ → Bool) (points : List ℕ) → ((p : ℕ) →
 uncovered-same c d [] same = refl
 uncovered-same c d (p ∷ ps) same =
     let rest = uncovered-same c d ps same in
-    rw (same p) (elim (d p) as (λ t. length (cond (not t) (p ∷ filter (λ p. not (c p)) ps) (filter (λ p. not (c p)) ps)) ≡ length (cond (not t) (p ∷ filter (λ p. not (d p)) ps) (filter (λ p. not (d p)) ps))) [
+    rw (same p) (elim (d p) as (λ t. length (cond (not t) (p ∷ filter (λ p. not (c p)) ps) (filter (λ p. not (c p)) ps))
+    ≡ length (cond (not t) (p ∷ filter (λ p. not (d p)) ps) (filter (λ p. not (d p)) ps))) [
       | true ↦ rest
       | false ↦ omega arith
     ])
@@ -24,7 +25,8 @@ uncovered-step : (c d : ℕ → Bool) (point p : ℕ) (ps : List ℕ) → c poin
     → length (cond (not (c p || eqb p point)) (p ∷ filter (λ p. not (d p)) ps) (filter (λ p. not (d p)) ps)) + (cond (eqb point p) 1 0 + count point ps)
     ≡ length (cond (not (c p)) (p ∷ filter (λ p. not (c p)) ps) (filter (λ p. not (c p)) ps))
 uncovered-step c d point p ps new rest =
-    elim (eqb point p) as (λ t. eqb point p ≡ t → length (cond (not (c p || eqb p point)) (p ∷ filter (λ p. not (d p)) ps) (filter (λ p. not (d p)) ps)) + (cond t 1 0 + count point ps)
+    elim (eqb point p) as (λ t. eqb point p ≡ t
+    → length (cond (not (c p || eqb p point)) (p ∷ filter (λ p. not (d p)) ps) (filter (λ p. not (d p)) ps)) + (cond t 1 0 + count point ps)
     ≡ length (cond (not (c p)) (p ∷ filter (λ p. not (c p)) ps) (filter (λ p. not (c p)) ps))) [
       | true ↦ λ e.
           let same : p ≡ point = sym (eqb-is point p e) in
@@ -41,7 +43,8 @@ uncovered-step c d point p ps new rest =
     ] refl
 
 -- a point that is covered anew was counted as often as it stands there
-pub uncovered-more : (c d : ℕ → Bool) (point : ℕ) (points : List ℕ) → c point ≡ false → ((p : ℕ) → d p ≡ (c p || eqb p point)) → uncovered d points + count point points ≡ uncovered c points
+pub uncovered-more : (c d : ℕ → Bool) (point : ℕ) (points : List ℕ) → c point ≡ false → ((p : ℕ) → d p ≡ (c p || eqb p point))
+    → uncovered d points + count point points ≡ uncovered c points
 uncovered-more c d point [] new more = refl
 uncovered-more c d point (p ∷ ps) new more =
     let rest = uncovered-more c d point ps new more in
@@ -90,7 +93,8 @@ or-assoc true b c = refl
 or-assoc false b c = refl
 
 -- the points that one test more covers
-pub covered_by-pushed : (covers : Covers) (tests : List ℕ) (test n : ℕ) → is_among (covered_by covers (tests ++ test ∷ [])) n ≡ (is_among (covered_by covers tests) n || is_among (points_of covers test) n)
+pub covered_by-pushed : (covers : Covers) (tests : List ℕ) (test n : ℕ)
+    → is_among (covered_by covers (tests ++ test ∷ [])) n ≡ (is_among (covered_by covers tests) n || is_among (points_of covers test) n)
 covered_by-pushed covers [] test n = among-append (points_of covers test) [] n ∙ or-false (is_among (points_of covers test) n)
 covered_by-pushed covers (t ∷ ts) test n =
     among-append (points_of covers t) (covered_by covers (ts ++ test ∷ [])) n
@@ -99,7 +103,8 @@ covered_by-pushed covers (t ∷ ts) test n =
     ∙ ap (λ (b : Bool). b || is_among (points_of covers test) n) (sym (among-append (points_of covers t) (covered_by covers ts) n))
 
 -- the gain of a test by the marks
-pub gain-marked : (covers : Covers) (chosen : List ℕ) (c : ℕ → Bool) (gains : List ℕ) (test : ℕ) → ((p : ℕ) → c p ≡ is_among (covered_by covers chosen) p) → AreGains covers c gains
+pub gain-marked : (covers : Covers) (chosen : List ℕ) (c : ℕ → Bool) (gains : List ℕ) (test : ℕ) → ((p : ℕ) → c p ≡ is_among (covered_by covers chosen) p)
+    → AreGains covers c gains
     → get_or gains test 0 ≡ gain covers chosen test
 gain-marked covers chosen c gains test same are = are test ∙ uncovered-same c (is_among (covered_by covers chosen)) (points_of covers test) same
 
@@ -109,7 +114,8 @@ uncovered-all c [] none = refl
 uncovered-all c (p ∷ ps) none = let rest = uncovered-all c ps none in rw (none p) (omega arith)
 
 -- the gains when one point more is covered
-pub gains-lowered : (covers : Covers) (c d : ℕ → Bool) (point : ℕ) (at old new : List ℕ) → AreGains covers c old → c point ≡ false → ((p : ℕ) → d p ≡ (c p || eqb p point))
+pub gains-lowered : (covers : Covers) (c d : ℕ → Bool) (point : ℕ) (at old new : List ℕ) → AreGains covers c old → c point ≡ false → ((p : ℕ)
+    → d p ≡ (c p || eqb p point))
     → ((t : ℕ) → count t at ≡ count point (points_of covers t)) → ((t : ℕ) → get_or new t 0 + count t at ≡ get_or old t 0) → AreGains covers d new
 gains-lowered covers c d point at old new are fresh more index lowered t =
     let a = are t in
@@ -119,7 +125,8 @@ gains-lowered covers c d point at old new are fresh more index lowered t =
     omega arith
 
 -- and no gain is less than what it is lowered by
-pub gains-enough : (covers : Covers) (c : ℕ → Bool) (point : ℕ) (at gains : List ℕ) → AreGains covers c gains → c point ≡ false → ((t : ℕ) → count t at ≡ count point (points_of covers t)) → (t : ℕ) → count t at ≤ get_or gains t 0
+pub gains-enough : (covers : Covers) (c : ℕ → Bool) (point : ℕ) (at gains : List ℕ) → AreGains covers c gains → c point ≡ false → ((t : ℕ)
+    → count t at ≡ count point (points_of covers t)) → (t : ℕ) → count t at ≤ get_or gains t 0
 gains-enough covers c point at gains are fresh index t =
     let a = are t in
     let b = index t in

@@ -9,7 +9,8 @@ one-next covers before test other a b =
     let most-a = a.most other in
     let most-b = b.most test in
     ⊎_elim (λ (l : test < other). let e = b.earliest test l in absurd (omega arith))
-    (λ (ge : other ≤ test). ⊎_elim (λ (l : other < test). let e = a.earliest other l in absurd (omega arith)) (λ (le : test ≤ other). omega arith) (cases_lt other test))
+    (λ (ge : other ≤ test). ⊎_elim (λ (l : other < test). let e = a.earliest other l in
+    absurd (omega arith)) (λ (le : test ≤ other). omega arith) (cases_lt other test))
     (cases_lt test other)
 
 one-chosen : (covers : Covers) (before tests others : List ℕ) → AreChosenBehind covers before tests → AreChosenBehind covers before others → tests ≡ others
@@ -19,7 +20,8 @@ one-chosen covers before _ _ (next {test = test} comes behind) (complete none) =
 one-chosen covers before _ _ (next {tests = tests} {test = test} comes behind) (next {tests = others} {test = other} comes' behind') =
     let same : test ≡ other = one-next covers before test other comes comes' in
     ap (λ (t : ℕ). t ∷ tests) same
-    ∙ ap (λ (ts : List ℕ). other ∷ ts) (one-chosen covers (before ++ test ∷ []) tests others behind (subst (λ (t : ℕ). AreChosenBehind covers (before ++ t ∷ []) others) (sym same) behind'))
+    ∙ ap (λ (ts : List ℕ). other ∷ ts) (one-chosen covers (before ++ test ∷ []) tests others behind (subst (λ (t : ℕ). AreChosenBehind covers (before
+    ++ t ∷ []) others) (sym same) behind'))
 
 pub one-ranking : OneRanking
 one-ranking covers rows others is are =

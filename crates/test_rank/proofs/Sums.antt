@@ -1,4 +1,5 @@
-use Rattle.std.proofs.Common.{◌≡◌, ℕ, zero, suc, ◌+◌, ◌<◌, ◌≤◌, true, false, ltb, Some, None, length, get_or, set, List, [], ◌∷◌, ◌++◌, map, arith, refl, ⊎_elim}
+use Rattle.std.proofs.Common.{◌≡◌, ℕ, zero, suc, ◌+◌, ◌<◌, ◌≤◌, true, false, ltb, Some, None, length, get_or, set, List, [], ◌∷◌, ◌++◌, map, arith, refl}
+use Rattle.std.proofs.Common.{⊎_elim}
 use Rattle.std.proofs.lemmas.Bool.{cases_lt}
 use Rattle.std.proofs.lemmas.Bool.Decides.{nat_tests}
 use Rattle.std.specs.List.{AllByRecursion}
@@ -31,12 +32,14 @@ total-below (x ∷ xs) [] len below = absurd (omega arith)
 total-below (x ∷ xs) (y ∷ ys) len below = let rest = total-below xs ys (omega arith) (λ k. below (suc k)) in let here = below 0 in omega arith
 
 -- and where one is less, so is the sum
-pub total-less : (xs ys : List ℕ) (at : ℕ) → length xs ≡ length ys → ((k : ℕ) → get_or xs k 0 ≤ get_or ys k 0) → get_or xs at 0 < get_or ys at 0 → total xs < total ys
+pub total-less : (xs ys : List ℕ) (at : ℕ) → length xs ≡ length ys → ((k : ℕ) → get_or xs k 0 ≤ get_or ys k 0) → get_or xs at 0 < get_or ys at 0
+    → total xs < total ys
 total-less [] [] at len below less = absurd (omega arith)
 total-less [] (y ∷ ys) at len below less = absurd (omega arith)
 total-less (x ∷ xs) [] at len below less = absurd (omega arith)
 total-less (x ∷ xs) (y ∷ ys) zero len below less = let rest = total-below xs ys (omega arith) (λ k. below (suc k)) in omega arith
-total-less (x ∷ xs) (y ∷ ys) (suc at) len below less = let rest = total-less xs ys at (omega arith) (λ k. below (suc k)) less in let here = below 0 in omega arith
+total-less (x ∷ xs) (y ∷ ys) (suc at) len below less = let rest = total-less xs ys at (omega arith) (λ k. below (suc k)) less in let here = below 0 in
+    omega arith
 
 -- where the greatest is 0, or the sum is, all are
 pub zero-total : (xs : List ℕ) (k : ℕ) → total xs ≡ 0 → get_or xs k 0 ≡ 0
@@ -79,16 +82,20 @@ get_or-any (x ∷ xs) zero d e h = refl
 get_or-any (x ∷ xs) (suc k) d e h = get_or-any xs k d e (omega arith)
 
 -- the limit on pairs
-pub limit-over : (covers : Covers) (points : List ℕ) (pairs : ℕ) → pairs ≡ pairs_of covers → 268435456 < pairs + length points → limit_passed (covers ++ points ∷ []) ≡ Some CoveredPairs
+pub limit-over : (covers : Covers) (points : List ℕ) (pairs : ℕ) → pairs ≡ pairs_of covers → 268435456 < pairs + length points
+    → limit_passed (covers ++ points ∷ []) ≡ Some CoveredPairs
 limit-over covers points pairs is over =
     let all = pairs-pushed covers points in
-    let above : ltb 268435456 (pairs_of (covers ++ points ∷ [])) ≡ true = let h : 268435456 < pairs_of (covers ++ points ∷ []) = omega arith in grind (arith, nat_tests) in
+    let above : ltb 268435456 (pairs_of (covers ++ points ∷ [])) ≡ true = let h : 268435456 < pairs_of (covers ++ points ∷ []) = omega arith in
+    grind (arith, nat_tests) in
     rw above refl
 
-pub limit-within : (covers : Covers) (points : List ℕ) (pairs : ℕ) → pairs ≡ pairs_of covers → pairs + length points ≤ 268435456 → limit_passed (covers ++ points ∷ []) ≡ None
+pub limit-within : (covers : Covers) (points : List ℕ) (pairs : ℕ) → pairs ≡ pairs_of covers → pairs + length points ≤ 268435456
+    → limit_passed (covers ++ points ∷ []) ≡ None
 limit-within covers points pairs is within =
     let all = pairs-pushed covers points in
-    let below : ltb 268435456 (pairs_of (covers ++ points ∷ [])) ≡ false = let h : pairs_of (covers ++ points ∷ []) ≤ 268435456 = omega arith in grind (arith, nat_tests) in
+    let below : ltb 268435456 (pairs_of (covers ++ points ∷ [])) ≡ false = let h : pairs_of (covers ++ points ∷ []) ≤ 268435456 = omega arith in
+    grind (arith, nat_tests) in
     rw below refl
 
 pub ascend-pushed : (covers : Covers) (points : List ℕ) → AllByRecursion Ascends covers → Ascends points → AllByRecursion Ascends (covers ++ points ∷ [])

@@ -30,7 +30,8 @@ IsIndex covers index = (test point : ℕ) → count test (tests_at index point) 
 
 -- an index with a test more at each of some points
 abbrev pub HasAdded : ℕ → List ℕ → List (List ℕ) → List (List ℕ) → Type 0
-HasAdded added points old new = (test point : ℕ) → count test (tests_at new point) ≡ count test (tests_at old point) + (if nat_eq test added then count point points else 0)
+HasAdded added points old new = (test point : ℕ) → count test (tests_at new point)
+    ≡ count test (tests_at old point) + (if nat_eq test added then count point points else 0)
 
 -- these are the numbers of points that each test adds to the covered ones
 abbrev pub AreGains : Covers → (ℕ → Bool) → List ℕ → Type 0

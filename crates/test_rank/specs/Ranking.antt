@@ -1,5 +1,6 @@
 -- Which tests a ranking chooses, and its table (docs/formats.md, "Ranking").
-use Rattle.std.specs.Prelude.{◌≡◌, ℕ, ◌+◌, ◌<◌, ◌≤◌, Bool, not, nat_eq, nat_lt, List, [], ◌∷◌, ◌++◌, map, length, filter, codes, decimal, get_or, Option, None, Some, if◌then◌else◌}
+use Rattle.std.specs.Prelude.{◌≡◌, ℕ, ◌+◌, ◌<◌, ◌≤◌, Bool, not, nat_eq, nat_lt, List, [], ◌∷◌, ◌++◌, map, length, filter, codes, decimal, get_or, Option, None}
+use Rattle.std.specs.Prelude.{Some, if◌then◌else◌}
 use Rattle.std.specs.List.{list_any, flat_map, enumerate_from}
 use Rattle.cov_types.specs.declared.limit.LimitName.{LimitName}
 use Rattle.cov_types.specs.declared.limit.LimitName.TheVariants.{CoveredPairs}
@@ -51,7 +52,8 @@ pub record ComesNext (covers : Covers) (before : List ℕ) (test : ℕ) : Type 0
 
 -- The chosen tests behind others, in order: each comes next behind those before it, and behind the last no test adds a point.
 pub data AreChosenBehind (covers : Covers) : List ℕ → List ℕ → Type 0 where
-  next : {before tests : List ℕ} {test : ℕ} → ComesNext covers before test → AreChosenBehind covers (before ++ test ∷ []) tests → AreChosenBehind covers before (test ∷ tests)
+  next : {before tests : List ℕ} {test : ℕ} → ComesNext covers before test → AreChosenBehind covers (before ++ test ∷ []) tests
+      → AreChosenBehind covers before (test ∷ tests)
   complete : {before : List ℕ} → ((other : ℕ) → gain covers before other ≡ 0) → AreChosenBehind covers before []
 
 abbrev pub AreChosen : Covers → List ℕ → Type 0

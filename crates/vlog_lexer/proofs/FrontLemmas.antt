@@ -1,5 +1,6 @@
 -- What begins at the front of a text, test by test.
-use Rattle.std.proofs.Common.{◌≡◌, ◌≢◌, ℕ, ◌+◌, ◌-◌, ◌<◌, Bool, true, false, cond, eqb, List, [], ◌∷◌, length, get_or, take, drop, refl, sym, ◌∙◌, ap, subst, arith}
+use Rattle.std.proofs.Common.{◌≡◌, ◌≢◌, ℕ, ◌+◌, ◌-◌, ◌<◌, Bool, true, false, cond, eqb, List, [], ◌∷◌, length, get_or, take, drop, refl, sym, ◌∙◌, ap, subst}
+use Rattle.std.proofs.Common.{arith}
 use Rattle.std.specs.Prelude.{nat_eq, Result}
 use Rattle.std.specs.Prelude.{◌||◌}
 use Rattle.std.specs.Int.{is_in_range}
@@ -8,7 +9,8 @@ use Rattle.std.proofs.lemmas.Bool.{false≢true, ne_eqb}
 use Rattle.std.proofs.lemmas.List.{drop-drop, take_rest}
 use Rattle.vlog_lexer.specs.Bytes.{begins_number, is_white}
 use Rattle.vlog_lexer.specs.Numbers.{number_of}
-use Rattle.vlog_lexer.specs.Pieces.{Front, Gives, block_comment_piece, directive_piece, front_of, line_comment_piece, name_piece, number_front, piece, string_piece, symbol_front, system_piece}
+use Rattle.vlog_lexer.specs.Pieces.{Front, Gives, block_comment_piece, directive_piece, front_of, line_comment_piece, name_piece, number_front, piece}
+use Rattle.vlog_lexer.specs.Pieces.{string_piece, symbol_front, system_piece}
 use Rattle.vlog_lexer.specs.declared.piece.Meaning.TheVariants.{Blank}
 use Rattle.vlog_lexer.specs.declared.piece.Piece.{Piece}
 use Rattle.vlog_lexer.specs.declared.piece.Stop.{Stop}
@@ -30,7 +32,8 @@ chain s white name number quote dollar back line block =
     cond block (block_comment_piece (drop 1 (drop 1 s))) (
     symbol_front (symbol_of s)))))))))
 
-front-is : (s : List ℕ) → 0 < length s → front_of s ≡ chain s (is_white (get_or s 0 0)) (begins_name (get_or s 0 0)) (begins_number (get_or s 0 0)) (eqb (get_or s 0 0) 34) (eqb (get_or s 0 0) 36) (eqb (get_or s 0 0) 96) (starts_with nat_eq s (47 ∷ (47 ∷ []))) (starts_with nat_eq s (47 ∷ (42 ∷ [])))
+front-is : (s : List ℕ) → 0 < length s → front_of s
+    ≡ chain s (is_white (get_or s 0 0)) (begins_name (get_or s 0 0)) (begins_number (get_or s 0 0)) (eqb (get_or s 0 0) 34) (eqb (get_or s 0 0) 36) (eqb (get_or s 0 0) 96) (starts_with nat_eq s (47 ∷ (47 ∷ []))) (starts_with nat_eq s (47 ∷ (42 ∷ [])))
 unfolding front_of
 front-is [] l = absurd (omega arith)
 front-is (b ∷ rest) l = refl
@@ -48,7 +51,8 @@ at-white s l e = front-is s l ∙ rw e refl
 pub at-name : (s : List ℕ) → 0 < length s → is_white (get_or s 0 0) ≡ false → begins_name (get_or s 0 0) ≡ true → front_of s ≡ name_piece s
 at-name s l w e = front-is s l ∙ rw (w, e) refl
 
-pub at-number : (s : List ℕ) → 0 < length s → is_white (get_or s 0 0) ≡ false → begins_name (get_or s 0 0) ≡ false → begins_number (get_or s 0 0) ≡ true → front_of s ≡ number_front (number_of s)
+pub at-number : (s : List ℕ) → 0 < length s → is_white (get_or s 0 0) ≡ false → begins_name (get_or s 0 0) ≡ false → begins_number (get_or s 0 0) ≡ true
+    → front_of s ≡ number_front (number_of s)
 at-number s l w n e = front-is s l ∙ rw (w, n, e) refl
 
 pub at-quote : (s : List ℕ) → IsOther s → get_or s 0 0 ≡ 34 → front_of s ≡ string_piece (drop 1 s)
@@ -69,20 +73,24 @@ pub record IsMark (s : List ℕ) : Type 0 where
   pub dollar : get_or s 0 0 ≢ 36
   pub back : get_or s 0 0 ≢ 96
 
-mark-is : (s : List ℕ) → IsMark s → front_of s ≡ chain s false false false false false false (starts_with nat_eq s (47 ∷ (47 ∷ []))) (starts_with nat_eq s (47 ∷ (42 ∷ [])))
+mark-is : (s : List ℕ) → IsMark s → front_of s
+    ≡ chain s false false false false false false (starts_with nat_eq s (47 ∷ (47 ∷ []))) (starts_with nat_eq s (47 ∷ (42 ∷ [])))
 mark-is s m =
     front-is s m.other.whole
     ∙ rw (m.other.white, m.other.name, m.other.number, ne_eqb (get_or s 0 0) 34 m.quote, ne_eqb (get_or s 0 0) 36 m.dollar, ne_eqb (get_or s 0 0) 96 m.back) refl
 
 pub at-line : (s : List ℕ) → IsMark s → starts_with nat_eq s (47 ∷ (47 ∷ [])) ≡ true → front_of s ≡ line_comment_piece (drop 2 s)
-at-line s m e = mark-is s m ∙ ap (λ (t : Bool). chain s false false false false false false t (starts_with nat_eq s (47 ∷ (42 ∷ [])))) e ∙ ap line_comment_piece (drop-drop 1 1 s)
+at-line s m e = mark-is s m ∙ ap (λ (t : Bool). chain s false false false false false false t (starts_with nat_eq s (47 ∷ (42 ∷ [])))) e
+    ∙ ap line_comment_piece (drop-drop 1 1 s)
 
-pub at-block : (s : List ℕ) → IsMark s → starts_with nat_eq s (47 ∷ (47 ∷ [])) ≡ false → starts_with nat_eq s (47 ∷ (42 ∷ [])) ≡ true → front_of s ≡ block_comment_piece (drop 2 s)
+pub at-block : (s : List ℕ) → IsMark s → starts_with nat_eq s (47 ∷ (47 ∷ [])) ≡ false → starts_with nat_eq s (47 ∷ (42 ∷ [])) ≡ true
+    → front_of s ≡ block_comment_piece (drop 2 s)
 at-block s m n e =
     mark-is s m ∙ ap (λ (t : Bool). chain s false false false false false false t (starts_with nat_eq s (47 ∷ (42 ∷ [])))) n
     ∙ ap (λ (t : Bool). chain s false false false false false false false t) e ∙ ap block_comment_piece (drop-drop 1 1 s)
 
-pub at-symbol : (s : List ℕ) → IsMark s → starts_with nat_eq s (47 ∷ (47 ∷ [])) ≡ false → starts_with nat_eq s (47 ∷ (42 ∷ [])) ≡ false → front_of s ≡ symbol_front (symbol_of s)
+pub at-symbol : (s : List ℕ) → IsMark s → starts_with nat_eq s (47 ∷ (47 ∷ [])) ≡ false → starts_with nat_eq s (47 ∷ (42 ∷ [])) ≡ false
+    → front_of s ≡ symbol_front (symbol_of s)
 at-symbol s m n e =
     mark-is s m ∙ ap (λ (t : Bool). chain s false false false false false false t (starts_with nat_eq s (47 ∷ (42 ∷ [])))) n
     ∙ ap (λ (t : Bool). chain s false false false false false false false t) e
@@ -91,7 +99,8 @@ at-symbol s m n e =
 pub given : (s : List ℕ) (front : Front) (result : Result Piece Stop) → front_of s ≡ front → Gives front result → Gives (front_of s) result
 given s front result e gives = subst (λ (x : Front). Gives x result) (sym e) gives
 
-pub given-at : (k : ℕ) (s : List ℕ) (f : List ℕ → Front) (result : Result Piece Stop) → front_of s ≡ f (drop k s) → Gives (f (take (length s - k) (drop k s))) result → Gives (front_of s) result
+pub given-at : (k : ℕ) (s : List ℕ) (f : List ℕ → Front) (result : Result Piece Stop) → front_of s ≡ f (drop k s)
+    → Gives (f (take (length s - k) (drop k s))) result → Gives (front_of s) result
 given-at k s f result e gives = given s (f (drop k s)) result e (subst (λ (x : List ℕ). Gives (f x) result) (take_rest s k) gives)
 
 -- an identifier has at least one byte
@@ -109,5 +118,6 @@ continues b h = begins-continues (is_in_range 65 90 b) (is_in_range 97 122 b) (i
 pub name-some : (s : List ℕ) (n : ℕ) → 0 < length s → begins_name (get_or s 0 0) ≡ true → n ≡ prefix_len continues_name s → 0 < n
 name-some [] n l begins is = absurd (omega arith)
 name-some (b ∷ rest) n l begins is =
-    let some : prefix_len continues_name (b ∷ rest) ≡ 1 + prefix_len continues_name rest = ap (λ (t : Bool). cond t (1 + prefix_len continues_name rest) 0) (continues b begins) in
+    let some : prefix_len continues_name (b ∷ rest)
+    ≡ 1 + prefix_len continues_name rest = ap (λ (t : Bool). cond t (1 + prefix_len continues_name rest) 0) (continues b begins) in
     omega arith

@@ -1,5 +1,6 @@
 -- A text has one reading at most.
-use Rattle.std.proofs.Common.{◌≡◌, ℕ, ◌+◌, ◌<◌, ◌≤◌, ◌⊎◌, inl, inr, List, [], ◌∷◌, ◌++◌, Option, length, take, drop, Some, None, Ok, Err, refl, sym, ◌∙◌, ap, subst, arith, append_assoc, append-nil}
+use Rattle.std.proofs.Common.{◌≡◌, ℕ, ◌+◌, ◌<◌, ◌≤◌, ◌⊎◌, inl, inr, List, [], ◌∷◌, ◌++◌, Option, length, take, drop, Some, None, Ok, Err, refl, sym, ◌∙◌, ap}
+use Rattle.std.proofs.Common.{subst, arith, append_assoc, append-nil}
 use Rattle.std.specs.Prelude.{Result}
 use Rattle.std.proofs.lemmas.List.{drop_all, take_at}
 use Rattle.cov_types.specs.declared.limit.LimitName.{LimitName}
@@ -7,7 +8,8 @@ use Rattle.cov_types.specs.declared.pragma.Pragma.{Pragma}
 use Rattle.vlog_lexer.specs.Faults.{fault_at}
 use Rattle.vlog_lexer.specs.Limits.{limit_passed}
 use Rattle.vlog_lexer.specs.Pieces.{Front, front_of}
-use Rattle.vlog_lexer.specs.Reading.{Answers, IsFaultOf, IsFlawOf, IsLimitOf, IsListOf, IsReadingOf, IsWithinLimits, Spans, IsUnlessNoMemory, latest, place_at, token_of, tokens_of, pragmas_of}
+use Rattle.vlog_lexer.specs.Reading.{Answers, IsFaultOf, IsFlawOf, IsLimitOf, IsListOf, IsReadingOf, IsWithinLimits, Spans, IsUnlessNoMemory, latest, place_at}
+use Rattle.vlog_lexer.specs.Reading.{token_of, tokens_of, pragmas_of}
 use Rattle.vlog_lexer.specs.declared.fault.LexFault.{LexFault}
 use Rattle.vlog_lexer.specs.declared.fault.LexFault.TheVariants as fault
 use Rattle.vlog_lexer.specs.declared.piece.Piece.{Piece}
@@ -37,7 +39,8 @@ ok_same e = cc
 cons_same : (p q : Piece) (ps qs : List Piece) → p ≡ q → ps ≡ qs → p ∷ ps ≡ q ∷ qs
 cons_same p q ps qs e f = cc
 
-goes_further : (text : List ℕ) (p q : Piece) (ps qs : List Piece) (m k : ℕ) → p ≡ q → GoesOn text m ps qs k ⊎ GoesOn text k qs ps m → GoesOn text m (p ∷ ps) (q ∷ qs) k ⊎ GoesOn text k (q ∷ qs) (p ∷ ps) m
+goes_further : (text : List ℕ) (p q : Piece) (ps qs : List Piece) (m k : ℕ) → p ≡ q → GoesOn text m ps qs k ⊎ GoesOn text k qs ps m
+    → GoesOn text m (p ∷ ps) (q ∷ qs) k ⊎ GoesOn text k (q ∷ qs) (p ∷ ps) m
 goes_further text p q ps qs m k e (inl on) = inl (record { rest = on.rest; is = cons_same q p qs (ps ++ on.rest) (sym e) on.is; on = on.on })
 goes_further text p q ps qs m k e (inr on) = inr (record { rest = on.rest; is = cons_same p q ps (qs ++ on.rest) e on.is; on = on.on })
 
@@ -57,7 +60,8 @@ stuck text m k (p ∷ rest) off s = absurd (off p s.0)
 stuck_end : (text : List ℕ) (n : ℕ) → length text ≤ n → (piece : Piece) → front_of (drop n text) ≡ Ok piece → ⊥
 stuck_end text n l piece e = ends text n piece l e
 
-tokens_of-append : (file : ℕ) (text : List ℕ) (n m : ℕ) (ps qs : List Piece) → Spans text n ps m → tokens_of file text n (ps ++ qs) ≡ tokens_of file text n ps ++ tokens_of file text m qs
+tokens_of-append : (file : ℕ) (text : List ℕ) (n m : ℕ) (ps qs : List Piece) → Spans text n ps m
+    → tokens_of file text n (ps ++ qs) ≡ tokens_of file text n ps ++ tokens_of file text m qs
 tokens_of-append file text n m [] qs e = ap (λ (k : ℕ). tokens_of file text k qs) e
 tokens_of-append file text n m (p ∷ ps) qs s =
     let first = token_of (place_at file text n) p.what in
@@ -68,25 +72,30 @@ some_not_none : (name : LimitName) → (let o : Option LimitName = Some name in 
 some_not_none name e = cc
 
 -- a limit that is passed is passed in each longer run
-limit_clash : (file : ℕ) (text : List ℕ) (name : LimitName) (is : IsLimitOf file text name) (rest : List Piece) → IsWithinLimits (tokens_of file text 0 ((is.pieces ++ is.piece ∷ []) ++ rest)) → ⊥
+limit_clash : (file : ℕ) (text : List ℕ) (name : LimitName) (is : IsLimitOf file text name) (rest : List Piece)
+    → IsWithinLimits (tokens_of file text 0 ((is.pieces ++ is.piece ∷ []) ++ rest)) → ⊥
 limit_clash file text name is rest within =
     let run = is.pieces ++ is.piece ∷ [] in
     let spans = Spans-one_more text 0 is.pieces is.at is.piece is.before.spans is.next in
     let tokens = tokens_of file text 0 run in
     let more = tokens_of file text (is.at + is.piece.len) rest in
     let none = within (length tokens) in
-    let front : take (length tokens) (tokens_of file text 0 (run ++ rest)) ≡ tokens = ap (take (length tokens)) (tokens_of-append file text 0 (is.at + is.piece.len) run rest spans) ∙ take_at tokens more (length tokens) refl in
+    let front : take (length tokens) (tokens_of file text 0 (run ++ rest))
+    ≡ tokens = ap (take (length tokens)) (tokens_of-append file text 0 (is.at + is.piece.len) run rest spans) ∙ take_at tokens more (length tokens) refl in
     some_not_none name (sym is.passed ∙ sym (ap (λ (ts : List Token). limit_passed (latest ts)) front) ∙ none)
 
-stops_at : (file : ℕ) (text : List ℕ) (name : LimitName) (is : IsLimitOf file text name) (qs : List Piece) (k : ℕ) → IsWithinLimits (tokens_of file text 0 qs) → (rest : List Piece) → qs ≡ is.pieces ++ rest → Spans text is.at rest k → (qs ≡ is.pieces) × (is.at ≡ k)
+stops_at : (file : ℕ) (text : List ℕ) (name : LimitName) (is : IsLimitOf file text name) (qs : List Piece) (k : ℕ)
+    → IsWithinLimits (tokens_of file text 0 qs) → (rest : List Piece) → qs ≡ is.pieces ++ rest → Spans text is.at rest k → (qs ≡ is.pieces) × (is.at ≡ k)
 stops_at file text name is qs k within [] e s = (e ∙ append-nil is.pieces, s)
 stops_at file text name is qs k within (p ∷ rest) e s =
     let same : p ≡ is.piece = ok_same (sym s.0 ∙ is.next) in
-    let longer : qs ≡ (is.pieces ++ is.piece ∷ []) ++ rest = e ∙ ap (λ (x : Piece). is.pieces ++ x ∷ rest) same ∙ sym (append_assoc is.pieces (is.piece ∷ []) rest) in
+    let longer : qs ≡ (is.pieces ++ is.piece ∷ []) ++ rest = e ∙ ap (λ (x : Piece). is.pieces ++ x ∷ rest) same
+    ∙ sym (append_assoc is.pieces (is.piece ∷ []) rest) in
     absurd (limit_clash file text name is rest (subst (λ (xs : List Piece). IsWithinLimits (tokens_of file text 0 xs)) longer within))
 
 -- a run within limits does not go on past a limit
-limit_stops : (file : ℕ) (text : List ℕ) (name : LimitName) (is : IsLimitOf file text name) (qs : List Piece) (k : ℕ) → IsWithinLimits (tokens_of file text 0 qs) → GoesOn text is.at is.pieces qs k → (qs ≡ is.pieces) × (is.at ≡ k)
+limit_stops : (file : ℕ) (text : List ℕ) (name : LimitName) (is : IsLimitOf file text name) (qs : List Piece) (k : ℕ)
+    → IsWithinLimits (tokens_of file text 0 qs) → GoesOn text is.at is.pieces qs k → (qs ≡ is.pieces) × (is.at ≡ k)
 limit_stops file text name is qs k within on = stops_at file text name is qs k within on.rest on.is on.on
 
 abbrev list : List Token → List Pragma → TokenList
@@ -137,7 +146,8 @@ list_or_limit : (file : ℕ) (text : List ℕ) (a : TokenList) (name : LimitName
 list_or_limit file text a name la is =
     elim (compare text 0 is.at (length text) is.pieces la.pieces is.before.spans la.whole.spans) [
       | inl on ↦ let end = (limit_stops file text name is la.pieces (length text) la.whole.limits on).1 in ends text is.at is.piece (omega arith) is.next
-      | inr on ↦ let end = (stuck text (length text) is.at on.rest (stuck_end text (length text) (omega arith)) on.on).1 in ends text is.at is.piece (omega arith) is.next
+      | inr on ↦ let end = (stuck text (length text) is.at on.rest (stuck_end text (length text) (omega arith)) on.on).1 in
+          ends text is.at is.piece (omega arith) is.next
     ]
 
 flaw_or_limit : (file : ℕ) (text : List ℕ) (f : LexFault) (name : LimitName) → IsFlawOf file text f → IsLimitOf file text name → ⊥
@@ -152,7 +162,8 @@ flaw_or_limit file text f name fa is =
 same_flaw : (file : ℕ) (text : List ℕ) (f g : LexFault) (fa : IsFlawOf file text f) (fb : IsFlawOf file text g) → fa.at ≡ fb.at → f ≡ g
 same_flaw file text f g fa fb e =
     let same : fa.refusal ≡ fb.refusal = err_same (sym fa.refused ∙ ap (λ (k : ℕ). front_of (drop k text)) e ∙ fb.refused) in
-    fa.is ∙ ap (λ (r : Refusal). fault_at r.flaw (place_at file text (fa.at + r.offset))) same ∙ ap (λ (k : ℕ). fault_at fb.refusal.flaw (place_at file text (k + fb.refusal.offset))) e ∙ sym fb.is
+    fa.is ∙ ap (λ (r : Refusal). fault_at r.flaw (place_at file text (fa.at + r.offset))) same
+    ∙ ap (λ (k : ℕ). fault_at fb.refusal.flaw (place_at file text (k + fb.refusal.offset))) e ∙ sym fb.is
 
 flaws : (file : ℕ) (text : List ℕ) (f g : LexFault) → IsFlawOf file text f → IsFlawOf file text g → f ≡ g
 flaws file text f g fa fb =
@@ -164,7 +175,8 @@ flaws file text f g fa fb =
 same_limit : (file : ℕ) (text : List ℕ) (x y : LimitName) (a : IsLimitOf file text x) (b : IsLimitOf file text y) → b.pieces ≡ a.pieces → a.at ≡ b.at → x ≡ y
 same_limit file text x y a b e f =
     let same : a.piece ≡ b.piece = ok_same (sym a.next ∙ ap (λ (k : ℕ). front_of (drop k text)) f ∙ b.next) in
-    let run : a.pieces ++ a.piece ∷ [] ≡ b.pieces ++ b.piece ∷ [] = ap (λ (ps : List Piece). ps ++ a.piece ∷ []) (sym e) ∙ ap (λ (p : Piece). b.pieces ++ p ∷ []) same in
+    let run : a.pieces ++ a.piece ∷ [] ≡ b.pieces ++ b.piece ∷ [] = ap (λ (ps : List Piece). ps ++ a.piece ∷ []) (sym e)
+    ∙ ap (λ (p : Piece). b.pieces ++ p ∷ []) same in
     name_same (sym a.passed ∙ ap (λ (ps : List Piece). limit_passed (latest (tokens_of file text 0 ps))) run ∙ b.passed)
 
 limits : (file : ℕ) (text : List ℕ) (x y : LimitName) → IsLimitOf file text x → IsLimitOf file text y → x ≡ y
@@ -189,7 +201,8 @@ list_or_fault file text a f la h = elim (fault_kind file text f h) [
   | inr fa ↦ list_or_limit file text a fa.0 la fa.2
 ]
 
-two_faults : (file : ℕ) (text : List ℕ) (f g : LexFault) → IsFlawOf file text f ⊎ IsLimitFault file text f → IsFlawOf file text g ⊎ IsLimitFault file text g → f ≡ g
+two_faults : (file : ℕ) (text : List ℕ) (f g : LexFault) → IsFlawOf file text f ⊎ IsLimitFault file text f → IsFlawOf file text g ⊎ IsLimitFault file text g
+    → f ≡ g
 two_faults file text f g (inl a) (inl b) = flaws file text f g a b
 two_faults file text f g (inl a) (inr b) = absurd (flaw_or_limit file text f b.0 a b.2)
 two_faults file text f g (inr a) (inl b) = absurd (flaw_or_limit file text g a.0 b a.2)
@@ -205,7 +218,8 @@ one_reading file text (Err f) (Ok b) h k = absurd (list_or_fault file text b f k
 one_reading file text (Err f) (Err g) h k = ap (λ (x : LexFault). Err x) (faults file text f g h k)
 
 -- whatever reading a text has is the one that was answered
-pub answer_is : (file : ℕ) (text : List ℕ) (result other : Result TokenList LexFault) → Answers file text result → IsReadingOf file text other → IsUnlessNoMemory result other
+pub answer_is : (file : ℕ) (text : List ℕ) (result other : Result TokenList LexFault) → Answers file text result → IsReadingOf file text other
+    → IsUnlessNoMemory result other
 answer_is file text (Ok a) other h k = one_reading file text (Ok a) other h k
 answer_is file text (Err fault.NoMemory) other h k = tt
 answer_is file text (Err (fault.Limit name)) other h k = one_reading file text (Err (fault.Limit name)) other h k

@@ -2,7 +2,8 @@
 use Rattle.std.proofs.Common.{◌≡◌, ℕ, ◌+◌, ◌&&◌, ◌||◌, Bool, true, false, cond, not, nat_lt, suc, List, ◌∷◌, take, count_by, refl, ◌∙◌, arith}
 use Rattle.std.proofs.lemmas.List.Sums.{sum_by-cons}
 use Rattle.std.specs.List.{prefix_len, take_while}
-use Rattle.vlog_lexer.specs.Limits.{begins_process, braces, branches, counts_as_operator, is_branch, is_comma, is_operator, is_semicolon, limit_at, limit_passed, name_length, operators, role_of, with_those_before}
+use Rattle.vlog_lexer.specs.Limits.{begins_process, braces, branches, counts_as_operator, is_branch, is_comma, is_operator, is_semicolon, limit_at}
+use Rattle.vlog_lexer.specs.Limits.{limit_passed, name_length, operators, role_of, with_those_before}
 use Rattle.vlog_lexer.specs.LimitsKept.{AreCounts, branched, operated}
 use Rattle.vlog_lexer.specs.declared.limits.Counts.{Counts}
 use Rattle.vlog_lexer.specs.declared.limits.Role.{Role}

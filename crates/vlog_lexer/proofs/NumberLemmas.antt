@@ -1,5 +1,6 @@
 -- Reading digits from left to right.
-use Rattle.std.proofs.Common.{◌≡◌, ◌≢◌, ℕ, ◌+◌, ◌*◌, ◌%◌, ◌^◌, ◌-◌, ◌<◌, ◌≤◌, suc, Bool, true, false, cond, eqb, List, [], length, get_or, drop, map, refl, sym, ◌∙◌, ap, arith, eqb-true}
+use Rattle.std.proofs.Common.{◌≡◌, ◌≢◌, ℕ, ◌+◌, ◌*◌, ◌%◌, ◌^◌, ◌-◌, ◌<◌, ◌≤◌, suc, Bool, true, false, cond, eqb, List, [], length, get_or, drop, map, refl, sym}
+use Rattle.std.proofs.Common.{◌∙◌, ap, arith, eqb-true}
 use Rattle.std.specs.Prelude.{◌∷◌}
 use Rattle.std.proofs.Math.Nat.{pow-suc, div-add-mod', mul_assoc}
 use Rattle.std.proofs.Math.Nat.{pow-zero, mul-pos, le-mul_of_pos_right, mod-add-mod, mod-eq_of_lt, mul-add-mod_self_right}
@@ -15,7 +16,9 @@ use Rattle.std.proofs.Common.{leb, min, take, subst}
 use Rattle.std.specs.Char.{is_ascii_digit}
 use Rattle.std.proofs.lemmas.Bool.{true≢false}
 use Rattle.vlog_lexer.specs.Bytes.{begins_number, continues_decimal, continues_digits, is_free}
-use Rattle.vlog_lexer.specs.Numbers.{place_value, digits_of, with_byte, below, fitting, is_wide, is_bad, width_of, bits_of, based_numeral, numeral, may_be_free, capped, size_of, plain_numeral, counted, behind_base, behind_sign, behind_quote, begins_with_quote, base_of, number_of, Counted, number_value, value_digit, free_bits, free_digit, bits_above}
+use Rattle.vlog_lexer.specs.Numbers.{place_value, digits_of, with_byte, below, fitting, is_wide, is_bad, width_of, bits_of, based_numeral, numeral, may_be_free}
+use Rattle.vlog_lexer.specs.Numbers.{capped, size_of, plain_numeral, counted, behind_base, behind_sign, behind_quote, begins_with_quote, base_of, number_of}
+use Rattle.vlog_lexer.specs.Numbers.{Counted, number_value, value_digit, free_bits, free_digit, bits_above}
 
 -- what the digits that are left make of the value so far
 abbrev pub left : (ℕ → ℕ) → ℕ → ℕ → List ℕ → ℕ
@@ -32,7 +35,8 @@ left-cons f base v b bs true e = rw e refl
 left-cons f base v b bs false e = rw e (place_value-two base v (f b) (map f (digits_of bs)))
 
 -- a step of a loop over the digits
-pub left-drop : (f : ℕ → ℕ) (base v : ℕ) (bs : List ℕ) (i : ℕ) → i < length bs → left f base v (drop i bs) ≡ left f base (with_byte f base v (get_or bs i 0)) (drop (i + 1) bs)
+pub left-drop : (f : ℕ → ℕ) (base v : ℕ) (bs : List ℕ) (i : ℕ) → i < length bs
+    → left f base v (drop i bs) ≡ left f base (with_byte f base v (get_or bs i 0)) (drop (i + 1) bs)
 unfolding with_byte
 left-drop f base v bs i l =
     at_drop_more (left f base v) bs i 0 l ∙ left-cons f base v (get_or bs i 0) (drop (i + 1) bs) (eqb (get_or bs i 0) 95) refl
@@ -76,7 +80,8 @@ pub value-start : (base : ℕ) (bs : List ℕ) → left value_digit base 0 bs �
 unfolding number_value
 value-start base bs = left-zero (base ^ length (map value_digit (digits_of bs))) (place_value base (map value_digit (digits_of bs)))
 
-pub value-stop : (base v : ℕ) (bs : List ℕ) (i total : ℕ) → 0 < base → i < length bs → None ≡ below (with_byte value_digit base v (get_or bs i 0)) → left value_digit base v (drop i bs) ≡ total → None ≡ below total
+pub value-stop : (base v : ℕ) (bs : List ℕ) (i total : ℕ) → 0 < base → i < length bs → None ≡ below (with_byte value_digit base v (get_or bs i 0))
+    → left value_digit base v (drop i bs) ≡ total → None ≡ below total
 value-stop base v bs i total h l e inv =
     let w = with_byte value_digit base v (get_or bs i 0) in
     let wide : 2 ^ 128 ≤ w = below-none w (ltb w (2 ^ 128)) refl e in
@@ -84,7 +89,8 @@ value-stop base v bs i total h l e inv =
     let same = sym (left-drop value_digit base v bs i l) ∙ inv in
     below-past total (omega arith)
 
-pub value-on : (base v m : ℕ) (bs : List ℕ) (i total : ℕ) → i < length bs → Some m ≡ below (with_byte value_digit base v (get_or bs i 0)) → left value_digit base v (drop i bs) ≡ total → left value_digit base m (drop (i + 1) bs) ≡ total
+pub value-on : (base v m : ℕ) (bs : List ℕ) (i total : ℕ) → i < length bs → Some m ≡ below (with_byte value_digit base v (get_or bs i 0))
+    → left value_digit base v (drop i bs) ≡ total → left value_digit base m (drop (i + 1) bs) ≡ total
 value-on base v m bs i total l e inv =
     let w = with_byte value_digit base v (get_or bs i 0) in
     ap (λ (n : ℕ). left value_digit base n (drop (i + 1) bs)) (below-some w m (ltb w (2 ^ 128)) refl e) ∙ sym (left-drop value_digit base v bs i l) ∙ inv
@@ -100,7 +106,8 @@ pub free-start : (base : ℕ) (bs : List ℕ) → left (free_digit base) base (b
 unfolding free_bits
 free-start base bs = refl
 
-pub free-on : (base v m : ℕ) (bs : List ℕ) (i total : ℕ) → i < length bs → m ≡ with_byte (free_digit base) base v (get_or bs i 0) % 2 ^ 128 → left (free_digit base) base v (drop i bs) % 2 ^ 128 ≡ total → left (free_digit base) base m (drop (i + 1) bs) % 2 ^ 128 ≡ total
+pub free-on : (base v m : ℕ) (bs : List ℕ) (i total : ℕ) → i < length bs → m ≡ with_byte (free_digit base) base v (get_or bs i 0) % 2 ^ 128
+    → left (free_digit base) base v (drop i bs) % 2 ^ 128 ≡ total → left (free_digit base) base m (drop (i + 1) bs) % 2 ^ 128 ≡ total
 free-on base v m bs i total l e inv =
     let f = free_digit base in
     let w = with_byte f base v (get_or bs i 0) in
@@ -116,13 +123,15 @@ free-done base v bs i total h l inv = sym (mod-eq_of_lt h) ∙ ap (λ (n : ℕ).
 digits-cons : (b : ℕ) (bs : List ℕ) (t : Bool) → eqb b 95 ≡ t → digits_of (b ∷ bs) ≡ cond t (digits_of bs) (b ∷ digits_of bs)
 digits-cons b bs t e = rw e refl
 
-pub first-digit : (bs : List ℕ) (i : ℕ) (r : Bool) (total : List ℕ) → i < length bs → get_or bs i 0 ≢ 95 → r ≡ is_free (get_or bs i 0) → digits_of (drop i bs) ≡ total → bits_above total ≡ cond r (2 ^ 128 - 1) 0
+pub first-digit : (bs : List ℕ) (i : ℕ) (r : Bool) (total : List ℕ) → i < length bs → get_or bs i 0 ≢ 95 → r ≡ is_free (get_or bs i 0)
+    → digits_of (drop i bs) ≡ total → bits_above total ≡ cond r (2 ^ 128 - 1) 0
 unfolding bits_above
 first-digit bs i r total l is e inv =
     ap bits_above (sym inv ∙ at_drop_more digits_of bs i 0 l ∙ digits-cons (get_or bs i 0) (drop (i + 1) bs) false (ne_eqb (get_or bs i 0) 95 is))
     ∙ ap (λ (t : Bool). cond t (2 ^ 128 - 1) 0) (sym e)
 
-pub digits-on : (bs : List ℕ) (i : ℕ) (total : List ℕ) → i < length bs → get_or bs i 0 ≡ 95 → digits_of (drop i bs) ≡ total → digits_of (drop (i + 1) bs) ≡ total
+pub digits-on : (bs : List ℕ) (i : ℕ) (total : List ℕ) → i < length bs → get_or bs i 0 ≡ 95 → digits_of (drop i bs) ≡ total
+    → digits_of (drop (i + 1) bs) ≡ total
 digits-on bs i total l is inv = sym (at_drop_more digits_of bs i 0 l ∙ digits-cons (get_or bs i 0) (drop (i + 1) bs) true (ap (λ (x : ℕ). eqb x 95) is)) ∙ inv
 
 pub no-digit : (bs : List ℕ) (i : ℕ) (total : List ℕ) → length bs ≤ i → digits_of (drop i bs) ≡ total → 0 ≡ bits_above total
@@ -136,7 +145,8 @@ cut-twice n w m h =
     let sum : m ≡ k + w = omega arith in
     let whole : n ≡ n / 2 ^ m * 2 ^ m + n % 2 ^ m = sym (div-add-mod' n (2 ^ m)) in
     let power : 2 ^ m ≡ 2 ^ k * 2 ^ w = ap (λ (j : ℕ). 2 ^ j) sum ∙ pow-add 2 k w in
-    let regrouped : n ≡ n / 2 ^ m * 2 ^ k * 2 ^ w + n % 2 ^ m = whole ∙ ap (λ (p : ℕ). p + n % 2 ^ m) (ap (λ (p : ℕ). n / 2 ^ m * p) power ∙ sym (mul_assoc (n / 2 ^ m) (2 ^ k) (2 ^ w))) in
+    let regrouped : n ≡ n / 2 ^ m * 2 ^ k * 2 ^ w + n % 2 ^ m = whole ∙ ap (λ (p : ℕ). p + n % 2 ^ m) (ap (λ (p : ℕ). n / 2 ^ m * p) power
+    ∙ sym (mul_assoc (n / 2 ^ m) (2 ^ k) (2 ^ w))) in
     sym (ap (λ (x : ℕ). x % 2 ^ w) regrouped ∙ mul-add-mod_self_right (n / 2 ^ m * 2 ^ k) (2 ^ w) (n % 2 ^ m))
 
 -- numbers behind a base
@@ -165,16 +175,20 @@ fitting-not : (size : Option ℕ) (n : ℕ) (t : Bool) → is_wide size n ≡ t 
 fitting-not size n true is e = is
 fitting-not size n false is e = absurd (cc e)
 
-pub based-bad : (size : Option ℕ) (signed : Bool) (base : ℕ) (digits : List ℕ) → is_bad size signed base digits ≡ true → Err BadNumber ≡ based_numeral size signed base digits
+pub based-bad : (size : Option ℕ) (signed : Bool) (base : ℕ) (digits : List ℕ) → is_bad size signed base digits ≡ true
+    → Err BadNumber ≡ based_numeral size signed base digits
 unfolding based_numeral
 based-bad size signed base digits bad = rw bad refl
 
-pub based-wide : (size : Option ℕ) (signed : Bool) (base : ℕ) (digits : List ℕ) → is_bad size signed base digits ≡ false → None ≡ fitting size (number_value base digits) → Err NumberTooWide ≡ based_numeral size signed base digits
+pub based-wide : (size : Option ℕ) (signed : Bool) (base : ℕ) (digits : List ℕ) → is_bad size signed base digits ≡ false
+    → None ≡ fitting size (number_value base digits) → Err NumberTooWide ≡ based_numeral size signed base digits
 unfolding based_numeral
 based-wide size signed base digits good e = rw (good, fitting-not size (number_value base digits) (is_wide size (number_value base digits)) refl e) refl
 
-pub based-fits : (size : Option ℕ) (signed : Bool) (base : ℕ) (digits : List ℕ) (value low free w : ℕ) → is_bad size signed base digits ≡ false → Some value ≡ fitting size (number_value base digits)
-    → w ≡ width_of size → low ≡ value % 2 ^ w → free ≡ (free_bits base digits % 2 ^ 128) % 2 ^ w → w ≤ 128 → Ok (numeral w signed low free) ≡ based_numeral size signed base digits
+pub based-fits : (size : Option ℕ) (signed : Bool) (base : ℕ) (digits : List ℕ) (value low free w : ℕ) → is_bad size signed base digits ≡ false
+    → Some value ≡ fitting size (number_value base digits)
+    → w ≡ width_of size → low ≡ value % 2 ^ w → free ≡ (free_bits base digits % 2 ^ 128) % 2 ^ w → w ≤ 128
+    → Ok (numeral w signed low free) ≡ based_numeral size signed base digits
 unfolding based_numeral
 based-fits size signed base digits value low free w good e is l f h =
     let fits = fitting-is size (number_value base digits) value (is_wide size (number_value base digits)) refl e in
@@ -193,13 +207,15 @@ wide-within None v t is e = omega arith
 wide-within (Some m) v t is e = ltb-false 128 m (or-no (ltb 128 m) (leb (2 ^ bits_of (Some m)) v) (sym is ∙ e))
 
 -- a size past 128 bits counts as any other
-based-past : (n m : ℕ) (signed : Bool) (base : ℕ) (digits : List ℕ) → 128 < n → 128 < m → based_numeral (Some n) signed base digits ≡ based_numeral (Some m) signed base digits
+based-past : (n m : ℕ) (signed : Bool) (base : ℕ) (digits : List ℕ) → 128 < n → 128 < m
+    → based_numeral (Some n) signed base digits ≡ based_numeral (Some m) signed base digits
 unfolding based_numeral is_bad is_wide width_of may_be_free
 based-past n m signed base digits h k =
     let n0 : n ≢ 0 = omega arith in let m0 : m ≢ 0 = omega arith in
     rw (ne_eqb n 0 n0, ne_eqb m 0 m0, lt-ltb 128 n h, lt-ltb 128 m k) refl
 
-capped-at : (n : ℕ) (signed : Bool) (base : ℕ) (digits : List ℕ) (t : Bool) → ltb n (2 ^ 128) ≡ t → based_numeral (Some (min n (2 ^ 128 - 1))) signed base digits ≡ based_numeral (Some n) signed base digits
+capped-at : (n : ℕ) (signed : Bool) (base : ℕ) (digits : List ℕ) (t : Bool) → ltb n (2 ^ 128) ≡ t
+    → based_numeral (Some (min n (2 ^ 128 - 1))) signed base digits ≡ based_numeral (Some n) signed base digits
 capped-at n signed base digits true e =
     let low = ltb-true n (2 ^ 128) e in
     let same : min n (2 ^ 128 - 1) ≡ n = omega arith in
@@ -209,16 +225,19 @@ capped-at n signed base digits false e =
     let past : 128 < min n (2 ^ 128 - 1) = omega arith in
     based-past (min n (2 ^ 128 - 1)) n signed base digits past (omega arith)
 
-pub based-capped : (size : Option ℕ) (signed : Bool) (base : ℕ) (digits : List ℕ) → based_numeral (capped size) signed base digits ≡ based_numeral size signed base digits
+pub based-capped : (size : Option ℕ) (signed : Bool) (base : ℕ) (digits : List ℕ)
+    → based_numeral (capped size) signed base digits ≡ based_numeral size signed base digits
 based-capped None signed base digits = refl
 based-capped (Some n) signed base digits = capped-at n signed base digits (ltb n (2 ^ 128)) refl
 
-base-capped : (before : ℕ) (size : Option ℕ) (signed : Bool) (base : Option ℕ) (text : List ℕ) → behind_base before (capped size) signed base text ≡ behind_base before size signed base text
+base-capped : (before : ℕ) (size : Option ℕ) (signed : Bool) (base : Option ℕ) (text : List ℕ)
+    → behind_base before (capped size) signed base text ≡ behind_base before size signed base text
 unfolding behind_base
 base-capped before size signed None text = refl
 base-capped before size signed (Some base) text = ap (counted (before + prefix_len continues_digits text)) (based-capped size signed base (take_while continues_digits text))
 
-sign-capped : (before : ℕ) (size : Option ℕ) (signed : Bool) (text : List ℕ) → behind_sign before (capped size) signed text ≡ behind_sign before size signed text
+sign-capped : (before : ℕ) (size : Option ℕ) (signed : Bool) (text : List ℕ)
+    → behind_sign before (capped size) signed text ≡ behind_sign before size signed text
 unfolding behind_sign
 sign-capped before size signed [] = refl
 sign-capped before size signed (b ∷ text) = base-capped (before + 1) size signed (base_of b) text
@@ -259,12 +278,14 @@ size-some v (b ∷ digits) h e =
 abbrev number_at : List ℕ → ℕ → Bool → Counted
 number_at s n r = cond r (behind_quote (n + 1) (size_of (take n s)) (drop (n + 1) s)) (plain_numeral n (number_value 10 (take n s)))
 
-number-at : (s : List ℕ) (n : ℕ) (r : Bool) → n ≡ prefix_len continues_decimal s → r ≡ begins_with_quote (take (length s - n) (drop n s)) → number_at s n r ≡ number_of s
+number-at : (s : List ℕ) (n : ℕ) (r : Bool) → n ≡ prefix_len continues_decimal s → r ≡ begins_with_quote (take (length s - n) (drop n s))
+    → number_at s n r ≡ number_of s
 unfolding number_of
 number-at s n r is e =
     ap (number_at s n) (e ∙ ap begins_with_quote (take_rest s n)) ∙ ap (λ (k : ℕ). number_at s k (begins_with_quote (drop k s))) is
 
-pub number-quoted : (s : List ℕ) (n : ℕ) (r : Bool) (size : Option ℕ) (out : Counted) → n ≡ prefix_len continues_decimal s → r ≡ begins_with_quote (take (length s - n) (drop n s)) → r ≡ true → size ≡ capped (size_of (take n s))
+pub number-quoted : (s : List ℕ) (n : ℕ) (r : Bool) (size : Option ℕ) (out : Counted) → n ≡ prefix_len continues_decimal s
+    → r ≡ begins_with_quote (take (length s - n) (drop n s)) → r ≡ true → size ≡ capped (size_of (take n s))
     → out ≡ behind_quote (n + 1) size (take (length (take (length s - n) (drop n s)) - 1) (drop 1 (take (length s - n) (drop n s)))) → out ≡ number_of s
 number-quoted s n r size out is e on same given =
     given
@@ -272,7 +293,8 @@ number-quoted s n r size out is e on same given =
     ∙ ap (λ (o : Option ℕ). behind_quote (n + 1) o (drop (n + 1) s)) same ∙ quote-capped (n + 1) (size_of (take n s)) (drop (n + 1) s)
     ∙ ap (number_at s n) (sym on) ∙ number-at s n r is e
 
-pub number-plain : (s : List ℕ) (n : ℕ) (r : Bool) (out : Counted) → n ≡ prefix_len continues_decimal s → r ≡ begins_with_quote (take (length s - n) (drop n s)) → r ≡ false
+pub number-plain : (s : List ℕ) (n : ℕ) (r : Bool) (out : Counted) → n ≡ prefix_len continues_decimal s
+    → r ≡ begins_with_quote (take (length s - n) (drop n s)) → r ≡ false
     → out ≡ plain_numeral n (number_value 10 (take n s)) → out ≡ number_of s
 number-plain s n r out is e off given = given ∙ ap (number_at s n) (sym off) ∙ number-at s n r is e
 
@@ -292,14 +314,16 @@ quoted-first : (b : ℕ) (rest : List ℕ) → b ≡ 39 → begins_with_quote (d
 unfolding begins_with_quote continues_decimal
 quoted-first b rest e off = true≢false (subst (λ (x : ℕ). begins_with_quote (drop (prefix_len continues_decimal (x ∷ rest)) (x ∷ rest)) ≡ false) e off)
 
-digit-or-quote : (b : ℕ) (rest : List ℕ) (t : Bool) → is_ascii_digit b ≡ t → (is_ascii_digit b || eqb b 39) ≡ true → begins_with_quote (drop (prefix_len continues_decimal (b ∷ rest)) (b ∷ rest)) ≡ false → 0 < prefix_len continues_decimal (b ∷ rest)
+digit-or-quote : (b : ℕ) (rest : List ℕ) (t : Bool) → is_ascii_digit b ≡ t → (is_ascii_digit b || eqb b 39) ≡ true
+    → begins_with_quote (drop (prefix_len continues_decimal (b ∷ rest)) (b ∷ rest)) ≡ false → 0 < prefix_len continues_decimal (b ∷ rest)
 unfolding continues_decimal
 digit-or-quote b rest true digit begins off = rw digit (omega arith)
 digit-or-quote b rest false digit begins off =
     let quote : b ≡ 39 = eqb-true b 39 (sym (ap (λ (t : Bool). t || eqb b 39) digit) ∙ begins) in
     absurd (quoted-first b rest quote off)
 
-pub number-some : (s : List ℕ) (n : ℕ) (r : Bool) → 0 < length s → begins_number (get_or s 0 0) ≡ true → n ≡ prefix_len continues_decimal s → r ≡ begins_with_quote (take (length s - n) (drop n s)) → r ≡ false → 0 < n
+pub number-some : (s : List ℕ) (n : ℕ) (r : Bool) → 0 < length s → begins_number (get_or s 0 0) ≡ true → n ≡ prefix_len continues_decimal s
+    → r ≡ begins_with_quote (take (length s - n) (drop n s)) → r ≡ false → 0 < n
 unfolding begins_number
 number-some [] n r l begins is e off = absurd (omega arith)
 number-some (b ∷ rest) n r l begins is e off =

@@ -1,5 +1,6 @@
 -- Lines and columns, a byte at a time.
-use Rattle.std.proofs.Common.{◌≡◌, ◌≢◌, ℕ, ◌+◌, ◌<◌, Bool, true, false, cond, eqb, List, [], ◌∷◌, ◌++◌, length, get_or, take, refl, sym, ◌∙◌, ap, subst, arith, append_assoc}
+use Rattle.std.proofs.Common.{◌≡◌, ◌≢◌, ℕ, ◌+◌, ◌<◌, Bool, true, false, cond, eqb, List, [], ◌∷◌, ◌++◌, length, get_or, take, refl, sym, ◌∙◌, ap, subst, arith}
+use Rattle.std.proofs.Common.{append_assoc}
 use Rattle.std.specs.Prelude.{count_by, not}
 use Rattle.std.specs.List.{prefix_len}
 use Rattle.std.proofs.lemmas.Bool.{ne_eqb}
@@ -45,7 +46,8 @@ other_is b n = ne_eqb b 10 n
 more : (xs bs : List ℕ) (i : ℕ) → i < length bs → xs ++ take (i + 1) bs ≡ (xs ++ take i bs) ++ get_or bs i 0 ∷ []
 more xs bs i l = ap (λ (ys : List ℕ). xs ++ ys) (take_at_read bs i 0 l).1 ∙ sym (append_assoc xs (take i bs) (get_or bs i 0 ∷ []))
 
-pub behind_line_feed : (before bs : List ℕ) (i line column : ℕ) → i < length bs → get_or bs i 0 ≡ 10 → IsPosition (before ++ take i bs) (position line column) → IsPosition (before ++ take (i + 1) bs) (position (line + 1) 1)
+pub behind_line_feed : (before bs : List ℕ) (i line column : ℕ) → i < length bs → get_or bs i 0 ≡ 10
+    → IsPosition (before ++ take i bs) (position line column) → IsPosition (before ++ take (i + 1) bs) (position (line + 1) 1)
 behind_line_feed before bs i line column l is at =
     let b = get_or bs i 0 in
     let xs = before ++ take i bs in
@@ -55,7 +57,8 @@ behind_line_feed before bs i line column l is at =
       column = sym (suffixed xs b false (no_line_feed_is b ∙ ap not feed));
     })
 
-pub behind_byte : (before bs : List ℕ) (i line column : ℕ) → i < length bs → get_or bs i 0 ≢ 10 → IsPosition (before ++ take i bs) (position line column) → IsPosition (before ++ take (i + 1) bs) (position line (column + 1))
+pub behind_byte : (before bs : List ℕ) (i line column : ℕ) → i < length bs → get_or bs i 0 ≢ 10 → IsPosition (before ++ take i bs) (position line column)
+    → IsPosition (before ++ take (i + 1) bs) (position line (column + 1))
 behind_byte before bs i line column l is at =
     let b = get_or bs i 0 in
     let xs = before ++ take i bs in
@@ -65,7 +68,8 @@ behind_byte before bs i line column l is at =
       column = omega (arith, at.column, suffixed xs b true (no_line_feed_is b ∙ ap not other));
     })
 
-pub place_is : (file line column : ℕ) (before : List ℕ) → IsPosition before (position line column) → record { file = file; line = line; column = column } ≡ place_after file before
+pub place_is : (file line column : ℕ) (before : List ℕ) → IsPosition before (position line column)
+    → record { file = file; line = line; column = column } ≡ place_after file before
 unfolding place_after
 place_is file line column before at = rw (at.line, at.column) refl
 

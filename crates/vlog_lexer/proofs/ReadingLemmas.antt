@@ -1,5 +1,6 @@
 -- What is read so far.
-use Rattle.std.proofs.Common.{◌≡◌, ℕ, ◌+◌, ◌-◌, ◌<◌, ◌≤◌, Bool, true, false, leb, List, [], ◌∷◌, ◌++◌, length, take, drop, map, reverse, Some, None, Ok, Err, refl, sym, ◌∙◌, ap, subst, arith, append_assoc, append-nil, length-append, length-drop, length-take}
+use Rattle.std.proofs.Common.{◌≡◌, ℕ, ◌+◌, ◌-◌, ◌<◌, ◌≤◌, Bool, true, false, leb, List, [], ◌∷◌, ◌++◌, length, take, drop, map, reverse, Some, None, Ok, Err}
+use Rattle.std.proofs.Common.{refl, sym, ◌∙◌, ap, subst, arith, append_assoc, append-nil, length-append, length-drop, length-take}
 use Rattle.std.proofs.lemmas.Bool.{leb-false, leb-true}
 use Rattle.std.proofs.lemmas.List.{reverse-append, take-append-le, take_rest, map-append, take_all}
 use Rattle.std.proofs.Math.Seq.{take-add}
@@ -11,7 +12,8 @@ use Rattle.vlog_lexer.specs.Faults.{fault_at}
 use Rattle.vlog_lexer.specs.Limits.{limit_passed}
 use Rattle.vlog_lexer.specs.Pieces.{Front, Gives, front_of}
 use Rattle.vlog_lexer.specs.Inside.{IsInside}
-use Rattle.vlog_lexer.specs.Reading.{Answers, IsFlawOf, IsLimitOf, IsListOf, IsWithinLimits, ReadsTo, Spans, latest, place_at, pragma_of, pragmas_of, token_of, tokens_of}
+use Rattle.vlog_lexer.specs.Reading.{Answers, IsFlawOf, IsLimitOf, IsListOf, IsWithinLimits, ReadsTo, Spans, latest, place_at, pragma_of, pragmas_of, token_of}
+use Rattle.vlog_lexer.specs.Reading.{tokens_of}
 use Rattle.vlog_lexer.specs.declared.fault.LexFault.{LexFault}
 use Rattle.vlog_lexer.specs.declared.fault.LexFault.TheVariants as fault
 use Rattle.vlog_lexer.specs.declared.piece.Flaw.{Flaw}
@@ -45,19 +47,24 @@ nothing_read file text = record {
   pragmas_are = refl;
 }
 
-pub Spans-one_more : (text : List ℕ) (n : ℕ) (pieces : List Piece) (at : ℕ) (piece : Piece) → Spans text n pieces at → front_of (drop at text) ≡ Ok piece → Spans text n (pieces ++ piece ∷ []) (at + piece.len)
+pub Spans-one_more : (text : List ℕ) (n : ℕ) (pieces : List Piece) (at : ℕ) (piece : Piece) → Spans text n pieces at → front_of (drop at text) ≡ Ok piece
+    → Spans text n (pieces ++ piece ∷ []) (at + piece.len)
 Spans-one_more text n [] at piece e front = (ap (λ (k : ℕ). front_of (drop k text)) e ∙ front, ap (λ (k : ℕ). k + piece.len) e)
 Spans-one_more text n (p ∷ pieces) at piece s front = (s.0, Spans-one_more text (n + p.len) pieces at piece s.1 front)
 
-pub tokens_of-one_more : (file : ℕ) (text : List ℕ) (n : ℕ) (pieces : List Piece) (at : ℕ) (piece : Piece) → Spans text n pieces at → tokens_of file text n (pieces ++ piece ∷ []) ≡ tokens_of file text n pieces ++ token_of (place_at file text at) piece.what
-tokens_of-one_more file text n [] at piece e = append-nil (token_of (place_at file text n) piece.what) ∙ ap (λ (k : ℕ). token_of (place_at file text k) piece.what) e
+pub tokens_of-one_more : (file : ℕ) (text : List ℕ) (n : ℕ) (pieces : List Piece) (at : ℕ) (piece : Piece) → Spans text n pieces at
+    → tokens_of file text n (pieces ++ piece ∷ []) ≡ tokens_of file text n pieces ++ token_of (place_at file text at) piece.what
+tokens_of-one_more file text n [] at piece e = append-nil (token_of (place_at file text n) piece.what)
+    ∙ ap (λ (k : ℕ). token_of (place_at file text k) piece.what) e
 tokens_of-one_more file text n (p ∷ pieces) at piece s =
     let first = token_of (place_at file text n) p.what in
     ap (λ (ts : List Token). first ++ ts) (tokens_of-one_more file text (n + p.len) pieces at piece s.1)
     ∙ sym (append_assoc first (tokens_of file text (n + p.len) pieces) (token_of (place_at file text at) piece.what))
 
-pub pragmas_of-one_more : (file : ℕ) (text : List ℕ) (n : ℕ) (pieces : List Piece) (at : ℕ) (piece : Piece) → Spans text n pieces at → pragmas_of file text n (pieces ++ piece ∷ []) ≡ pragmas_of file text n pieces ++ pragma_of (place_at file text at) piece.what
-pragmas_of-one_more file text n [] at piece e = append-nil (pragma_of (place_at file text n) piece.what) ∙ ap (λ (k : ℕ). pragma_of (place_at file text k) piece.what) e
+pub pragmas_of-one_more : (file : ℕ) (text : List ℕ) (n : ℕ) (pieces : List Piece) (at : ℕ) (piece : Piece) → Spans text n pieces at
+    → pragmas_of file text n (pieces ++ piece ∷ []) ≡ pragmas_of file text n pieces ++ pragma_of (place_at file text at) piece.what
+pragmas_of-one_more file text n [] at piece e = append-nil (pragma_of (place_at file text n) piece.what)
+    ∙ ap (λ (k : ℕ). pragma_of (place_at file text k) piece.what) e
 pragmas_of-one_more file text n (p ∷ pieces) at piece s =
     let first = pragma_of (place_at file text n) p.what in
     ap (λ (ts : List Pragma). first ++ ts) (pragmas_of-one_more file text (n + p.len) pieces at piece s.1)
@@ -70,7 +77,8 @@ pub latest-one_more : (tokens : List Token) (token : Token) → latest (tokens +
 latest-one_more tokens token =
     ap (λ (ks : List TokenKind). reverse ks) (map-append kind_of tokens (token ∷ [])) ∙ reverse-append (map kind_of tokens) (token.what ∷ [])
 
-within-at : (tokens : List Token) (token : Token) (n : ℕ) (t : Bool) → leb n (length tokens) ≡ t → IsWithinLimits tokens → limit_passed (latest (tokens ++ token ∷ [])) ≡ None → limit_passed (latest (take n (tokens ++ token ∷ []))) ≡ None
+within-at : (tokens : List Token) (token : Token) (n : ℕ) (t : Bool) → leb n (length tokens) ≡ t → IsWithinLimits tokens
+    → limit_passed (latest (tokens ++ token ∷ [])) ≡ None → limit_passed (latest (take n (tokens ++ token ∷ []))) ≡ None
 within-at tokens token n true e within last =
     let front : n ≤ length tokens = leb-true n (length tokens) e in
     ap (λ (ts : List Token). limit_passed (latest ts)) (take-append-le n tokens (token ∷ []) front) ∙ within n
@@ -80,7 +88,8 @@ within-at tokens token n false e within last =
     ap (λ (ts : List Token). limit_passed (latest ts)) (take_all n (tokens ++ token ∷ []) whole) ∙ last
 
 -- the limits still hold with what a piece adds
-within-more : (tokens : List Token) (place : Place) (what : Meaning) → IsWithinLimits tokens → StaysWithin (latest tokens) what → IsWithinLimits (tokens ++ token_of place what)
+within-more : (tokens : List Token) (place : Place) (what : Meaning) → IsWithinLimits tokens → StaysWithin (latest tokens) what
+    → IsWithinLimits (tokens ++ token_of place what)
 within-more tokens place m.Blank within stays = subst (λ (ts : List Token). IsWithinLimits ts) (sym (append-nil tokens)) within
 within-more tokens place (m.Comment kind) within stays = subst (λ (ts : List Token). IsWithinLimits ts) (sym (append-nil tokens)) within
 within-more tokens place (m.Token kind) within stays =
@@ -88,7 +97,8 @@ within-more tokens place (m.Token kind) within stays =
     λ n. within-at tokens token n (leb n (length tokens)) refl within (ap limit_passed (latest-one_more tokens token) ∙ stays)
 
 -- reading one more piece
-pub read_more : (file : ℕ) (text : List ℕ) (tokens : List Token) (pragmas : List Pragma) (at : ℕ) (what : Meaning) (len : ℕ) → IsRead file text tokens pragmas at → front_of (drop at text) ≡ Ok (record { what = what; len = len }) → StaysWithin (latest tokens) what
+pub read_more : (file : ℕ) (text : List ℕ) (tokens : List Token) (pragmas : List Pragma) (at : ℕ) (what : Meaning) (len : ℕ)
+    → IsRead file text tokens pragmas at → front_of (drop at text) ≡ Ok (record { what = what; len = len }) → StaysWithin (latest tokens) what
     → IsRead file text (tokens ++ token_of (place_at file text at) what) (pragmas ++ pragma_of (place_at file text at) what) (at + len)
 read_more file text tokens pragmas at what len read front stays =
     let piece : Piece = record { what = what; len = len } in
@@ -103,10 +113,12 @@ read_more file text tokens pragmas at what len read front stays =
         limits = subst (λ (ts : List Token). IsWithinLimits ts) same (within-more tokens (place_at file text at) what within stays);
       };
       tokens_are = same;
-      pragmas_are = ap (λ (ts : List Pragma). ts ++ pragma_of (place_at file text at) what) read.pragmas_are ∙ sym (pragmas_of-one_more file text 0 read.pieces at piece read.reads.spans);
+      pragmas_are = ap (λ (ts : List Pragma). ts ++ pragma_of (place_at file text at) what) read.pragmas_are
+          ∙ sym (pragmas_of-one_more file text 0 read.pieces at piece read.reads.spans);
     }
 
-pub whole_read : (file : ℕ) (text : List ℕ) (found : TokenList) (at : ℕ) → at ≤ length text → length text ≤ at → IsRead file text found.tokens found.pragmas at → IsListOf file text found
+pub whole_read : (file : ℕ) (text : List ℕ) (found : TokenList) (at : ℕ) → at ≤ length text → length text ≤ at
+    → IsRead file text found.tokens found.pragmas at → IsListOf file text found
 whole_read file text found at l g read =
     let end : at ≡ length text = omega arith in
     record {
@@ -126,7 +138,8 @@ flaw_answers file text flaw.OpenString place is = is
 flaw_answers file text flaw.Directive place is = is
 flaw_answers file text flaw.ReservedName place is = is
 
-pub refused_answers : (file : ℕ) (text : List ℕ) (tokens : List Token) (pragmas : List Pragma) (at : ℕ) (refusal : Refusal) (place : Place) → at < length text → IsRead file text tokens pragmas at
+pub refused_answers : (file : ℕ) (text : List ℕ) (tokens : List Token) (pragmas : List Pragma) (at : ℕ) (refusal : Refusal) (place : Place)
+    → at < length text → IsRead file text tokens pragmas at
     → front_of (drop at text) ≡ Err refusal → place ≡ place_at file text (at + refusal.offset) → Answers file text (Err (fault_at refusal.flaw place))
 refused_answers file text tokens pragmas at refusal place l read front here = flaw_answers file text refusal.flaw place (record {
   pieces = read.pieces;
@@ -139,7 +152,8 @@ refused_answers file text tokens pragmas at refusal place l read front here = fl
 })
 
 -- a limit that a token passes
-limit_answers : (file : ℕ) (text : List ℕ) (tokens : List Token) (pragmas : List Pragma) (at len : ℕ) (kind : TokenKind) (name : LimitName) → IsRead file text tokens pragmas at
+limit_answers : (file : ℕ) (text : List ℕ) (tokens : List Token) (pragmas : List Pragma) (at len : ℕ) (kind : TokenKind) (name : LimitName)
+    → IsRead file text tokens pragmas at
     → front_of (drop at text) ≡ Ok (record { what = m.Token kind; len = len }) → limit_passed (kind ∷ latest tokens) ≡ Some name → IsLimitOf file text name
 limit_answers file text tokens pragmas at len kind name read front passed =
     let piece : Piece = record { what = m.Token kind; len = len } in
@@ -155,7 +169,8 @@ limit_answers file text tokens pragmas at len kind name read front passed =
       passed = ap (λ (ts : List Token). limit_passed (latest ts)) same ∙ ap limit_passed (latest-one_more tokens token) ∙ passed;
     }
 
-pub adding_answers : (file : ℕ) (text : List ℕ) (tokens : List Token) (pragmas : List Pragma) (at len : ℕ) (what : Meaning) (f : LexFault) → IsRead file text tokens pragmas at
+pub adding_answers : (file : ℕ) (text : List ℕ) (tokens : List Token) (pragmas : List Pragma) (at len : ℕ) (what : Meaning) (f : LexFault)
+    → IsRead file text tokens pragmas at
     → front_of (drop at text) ≡ Ok (record { what = what; len = len }) → Refuses (latest tokens) what f → Answers file text (Err f)
 adding_answers file text tokens pragmas at len what fault.NoMemory read front h = tt
 adding_answers file text tokens pragmas at len (m.Token kind) (fault.Limit name) read front h = limit_answers file text tokens pragmas at len kind name read front h

@@ -1,5 +1,7 @@
 -- Which token a spelling is.
-use Rattle.std.proofs.Common.{◌≡◌, ◌≢◌, ℕ, ◌+◌, ◌^◌, ◌<◌, ◌≤◌, ◌&&◌, ◌||◌, Bool, true, false, cond, eqb, not, nat_le, nat_eq, suc, List, [], ◌∷◌, ◌++◌, length, take, drop, Option, None, Some, Ok, Err, codes, refl, sym, ◌∙◌, ap, subst, inl, inr, arith, append_assoc, length-append, ◌⊎◌, if◌then◌else◌}
+use Rattle.std.proofs.Common.{◌≡◌, ◌≢◌, ℕ, ◌+◌, ◌^◌, ◌<◌, ◌≤◌, ◌&&◌, ◌||◌, Bool, true, false, cond, eqb, not, nat_le, nat_eq, suc, List, [], ◌∷◌, ◌++◌, length}
+use Rattle.std.proofs.Common.{take, drop, Option, None, Some, Ok, Err, codes, refl, sym, ◌∙◌, ap, subst, inl, inr, arith, append_assoc, length-append, ◌⊎◌}
+use Rattle.std.proofs.Common.{if◌then◌else◌}
 use Rattle.std.proofs.Math.Bool.{and-false}
 use Rattle.std.proofs.Math.Seq.{drop-append_seam, take-append_seam}
 use Rattle.std.proofs.lemmas.Bool.{eqb-true, false≢true, true≢false, le-leb, leb-true, lt-leb, ne_eqb}
@@ -9,9 +11,12 @@ use Rattle.std.specs.Int.{is_in_range}
 use Rattle.std.specs.List.{list_all, prefix_len, starts_with, take_while}
 use Rattle.std.specs.Option.{option_map}
 use Rattle.vlog_lexer.specs.Bytes.{begins_number, continues_decimal, continues_digits, is_white}
-use Rattle.vlog_lexer.specs.Numbers.{base_of, based_numeral, begins_with_quote, begins_with_sign, behind_base, behind_quote, behind_sign, bits_of, counted, is_wide, numeral, number_of, number_value, plain_numeral, size_of, width_of}
+use Rattle.vlog_lexer.specs.Numbers.{base_of, based_numeral, begins_with_quote, begins_with_sign, behind_base, behind_quote, behind_sign, bits_of, counted}
+use Rattle.vlog_lexer.specs.Numbers.{is_wide, numeral, number_of, number_value, plain_numeral, size_of, width_of}
 use Rattle.vlog_lexer.specs.Pieces.{front_of, name_piece, number_front, piece, quoted_front, string_front, refusal, string_piece, system_piece, word_or_name}
-use Rattle.vlog_lexer.specs.Spellings.{BasedAreTaken, DecimalsAreTaken, IsSign, no_sign, small_s, large_s, IsSize, no_size, a_size, NamesAreLongest, NamesAreTaken, Spells, all_spelled, itself, escape, StopsAt, StringsAreTaken, SystemNamesAreTaken, WideDecimals, based_text, ends_decimal, identifier_means, is_decimal}
+use Rattle.vlog_lexer.specs.Spellings.{BasedAreTaken, DecimalsAreTaken, IsSign, no_sign, small_s, large_s, IsSize, no_size, a_size, NamesAreLongest}
+use Rattle.vlog_lexer.specs.Spellings.{NamesAreTaken, Spells, all_spelled, itself, escape, StopsAt, StringsAreTaken, SystemNamesAreTaken, WideDecimals}
+use Rattle.vlog_lexer.specs.Spellings.{based_text, ends_decimal, identifier_means, is_decimal}
 use Rattle.vlog_lexer.specs.Texts.{behind_first, bytes_of, closes, escaped, is_plain, plain_byte, quoted_length, takes_next}
 use Rattle.vlog_lexer.specs.declared.piece.Flaw.TheVariants as flaw
 use Rattle.vlog_lexer.specs.declared.piece.Meaning.TheVariants.{Token}
@@ -121,7 +126,8 @@ unfolding system_piece
 system_names_are_taken name rest spelled stops =
     let all = name_continues name spelled in
     system_is (name ++ rest)
-    ∙ ap (λ t. if t then piece (Token (k.System (36 ∷ take_while continues_name (name ++ rest)))) (1 + prefix_len continues_name (name ++ rest)) else refusal flaw.BadByte 0) (begins_spelled name rest spelled)
+    ∙ ap (λ t. if t then piece (Token (k.System (36 ∷ take_while continues_name (name ++ rest)))) (1 + prefix_len continues_name (name
+    ++ rest)) else refusal flaw.BadByte 0) (begins_spelled name rest spelled)
     ∙ ap (λ bytes. piece (Token (k.System (36 ∷ bytes))) (1 + prefix_len continues_name (name ++ rest))) (run_taken continues_name name rest all stops)
     ∙ ap (λ n. piece (Token (k.System (36 ∷ name))) (1 + n)) (run_is continues_name name rest all stops)
 
@@ -149,7 +155,9 @@ taken_spelled [] begins = absurd (false≢true begins)
 taken_spelled (b ∷ rest) begins =
     let here = front.continues b begins in
     let one : 1 + prefix_len continues_name rest ≡ suc (prefix_len continues_name rest) = omega arith in
-    let whole : take_while continues_name (b ∷ rest) ≡ b ∷ take_while continues_name rest = ap (λ t. take (cond t (1 + prefix_len continues_name rest) 0) (b ∷ rest)) here ∙ ap (λ n. take n (b ∷ rest)) one in
+    let whole : take_while continues_name (b ∷ rest)
+    ≡ b ∷ take_while continues_name rest = ap (λ t. take (cond t (1 + prefix_len continues_name rest) 0) (b ∷ rest)) here
+    ∙ ap (λ n. take n (b ∷ rest)) one in
     ap (λ s. begins_with_name s && list_all continues_name (take_while continues_name (b ∷ rest))) whole
     ∙ ap (λ t. t && list_all continues_name (take_while continues_name (b ∷ rest))) begins
     ∙ front_passes continues_name (b ∷ rest)
@@ -181,7 +189,11 @@ is_itself : (b : ℕ) → is_plain b ≡ true → IsItself b
 unfolding is_plain
 is_itself b e =
     let low = leb-true 32 b (first_of_both (nat_le 32 b) (nat_le b 126) (first_of_both (nat_le 32 b && nat_le b 126) (not (eqb b 92)) e)) in
-    record { no_feed = ne_eqb b 10 (λ (is : b ≡ 10). omega (arith, is, low)); no_slash = turned (eqb b 92) (second_of_both (nat_le 32 b && nat_le b 126) (not (eqb b 92)) e) }
+    record {
+      no_feed = ne_eqb b 10 (λ (is : b
+          ≡ 10). omega (arith, is, low));
+      no_slash = turned (eqb b 92) (second_of_both (nat_le 32 b && nat_le b 126) (not (eqb b 92)) e);
+    }
 
 -- what a quote and a backslash do to the next byte
 length_itself : (b : ℕ) (rest : List ℕ) → is_plain b ≡ true → b ≢ 34 → quoted_length false (b ∷ rest) ≡ option_map (λ n. 1 + n) (quoted_length false rest)
@@ -195,7 +207,8 @@ escaped_no_feed : (c d : ℕ) → escaped c ≡ Some d → eqb c 10 ≡ false
 unfolding escaped
 escaped_no_feed c d e = ne_eqb c 10 (λ (is : c ≡ 10). none_some d (subst (λ (x : ℕ). escaped x ≡ Some d) is e))
 
-length_escape : (c d : ℕ) (rest : List ℕ) → escaped c ≡ Some d → quoted_length false (92 ∷ (c ∷ rest)) ≡ option_map (λ n. 1 + n) (option_map (λ n. 1 + n) (quoted_length false rest))
+length_escape : (c d : ℕ) (rest : List ℕ) → escaped c ≡ Some d
+    → quoted_length false (92 ∷ (c ∷ rest)) ≡ option_map (λ n. 1 + n) (option_map (λ n. 1 + n) (quoted_length false rest))
 unfolding quoted_length closes takes_next
 length_escape c d rest e = rw (escaped_no_feed c d e, and-false (eqb c 34), and-false (eqb c 92)) refl
 
@@ -205,7 +218,8 @@ length_spelled text bytes rest all_spelled = refl
 length_spelled text bytes rest (itself b text2 bytes2 plain other more) =
     length_itself b (text2 ++ 34 ∷ rest) plain other ∙ ap (option_map (λ n. 1 + n)) (length_spelled text2 bytes2 rest more) ∙ ap (λ n. Some n) (omega arith)
 length_spelled text bytes rest (escape c d text2 bytes2 e more) =
-    length_escape c d (text2 ++ 34 ∷ rest) e ∙ ap (λ o. option_map (λ n. 1 + n) (option_map (λ n. 1 + n) o)) (length_spelled text2 bytes2 rest more) ∙ ap (λ n. Some n) (omega arith)
+    length_escape c d (text2 ++ 34 ∷ rest) e ∙ ap (λ o. option_map (λ n. 1 + n) (option_map (λ n. 1 + n) o)) (length_spelled text2 bytes2 rest more)
+    ∙ ap (λ n. Some n) (omega arith)
 
 bytes_itself : (b : ℕ) (text bytes : List ℕ) → is_plain b ≡ true → bytes_of text ≡ Ok bytes → bytes_of (b ∷ text) ≡ Ok (b ∷ bytes)
 unfolding bytes_of plain_byte
@@ -242,7 +256,8 @@ digit_first b e =
     let low : 48 ≤ b = range.0 in
     let high : b ≤ 57 = range.1 in (
       above_white b (omega arith),
-      ap (λ (t : Bool). (t || is_in_range 97 122 b) || eqb b 95) (below_range 65 90 b (omega arith)) ∙ ap (λ (t : Bool). t || eqb b 95) (below_range 97 122 b (omega arith)) ∙ ne_eqb b 95 (λ (is : b ≡ 95). omega arith),
+      ap (λ (t : Bool). (t || is_in_range 97 122 b) || eqb b 95) (below_range 65 90 b (omega arith))
+          ∙ ap (λ (t : Bool). t || eqb b 95) (below_range 97 122 b (omega arith)) ∙ ne_eqb b 95 (λ (is : b ≡ 95). omega arith),
       ap (λ (t : Bool). t || eqb b 39) e,
     )
 
@@ -279,18 +294,25 @@ no_quote (b ∷ rest) s = by (continues_decimal b) s
 
 -- what stands behind a run of decimal digits decides
 decimal_then : (digits rest : List ℕ) → list_all continues_decimal digits ≡ true → StopsAt continues_decimal rest
-    → number_of (digits ++ rest) ≡ (if begins_with_quote rest then behind_quote (length digits + 1) (size_of digits) (drop (length digits + 1) (digits ++ rest)) else plain_numeral (length digits) (number_value 10 digits))
+    → number_of (digits ++ rest) ≡ (if begins_with_quote rest then behind_quote (length digits + 1) (size_of digits) (drop (length digits + 1) (digits
+    ++ rest)) else plain_numeral (length digits) (number_value 10 digits))
 unfolding number_of
 decimal_then digits rest all stops =
-    ap (λ n. if begins_with_quote (drop n (digits ++ rest)) then behind_quote (n + 1) (size_of (take n (digits ++ rest))) (drop (n + 1) (digits ++ rest)) else plain_numeral n (number_value 10 (take n (digits ++ rest)))) (run_is continues_decimal digits rest all stops)
-    ∙ ap (λ s. if begins_with_quote s then behind_quote (length digits + 1) (size_of (take (length digits) (digits ++ rest))) (drop (length digits + 1) (digits ++ rest)) else plain_numeral (length digits) (number_value 10 (take (length digits) (digits ++ rest)))) (drop-append_seam digits rest)
-    ∙ ap (λ s. if begins_with_quote rest then behind_quote (length digits + 1) (size_of s) (drop (length digits + 1) (digits ++ rest)) else plain_numeral (length digits) (number_value 10 s)) (take-append_seam digits rest)
+    ap (λ n. if begins_with_quote (drop n (digits ++ rest)) then behind_quote (n + 1) (size_of (take n (digits ++ rest))) (drop (n + 1) (digits
+    ++ rest)) else plain_numeral n (number_value 10 (take n (digits ++ rest)))) (run_is continues_decimal digits rest all stops)
+    ∙ ap (λ s. if begins_with_quote s then behind_quote (length digits + 1) (size_of (take (length digits) (digits
+    ++ rest))) (drop (length digits + 1) (digits ++ rest)) else plain_numeral (length digits) (number_value 10 (take (length digits) (digits
+    ++ rest)))) (drop-append_seam digits rest)
+    ∙ ap (λ s. if begins_with_quote rest then behind_quote (length digits + 1) (size_of s) (drop (length digits + 1) (digits
+    ++ rest)) else plain_numeral (length digits) (number_value 10 s)) (take-append_seam digits rest)
 
-plain_is : (digits rest : List ℕ) → is_decimal digits ≡ true → StopsAt ends_decimal rest → front_of (digits ++ rest) ≡ number_front (plain_numeral (length digits) (number_value 10 digits))
+plain_is : (digits rest : List ℕ) → is_decimal digits ≡ true → StopsAt ends_decimal rest
+    → front_of (digits ++ rest) ≡ number_front (plain_numeral (length digits) (number_value 10 digits))
 plain_is digits rest e stops =
     number_front_is digits rest e
     ∙ ap number_front (decimal_then digits rest (all_decimal digits e) (stops_decimal rest stops)
-    ∙ ap (λ t. if t then behind_quote (length digits + 1) (size_of digits) (drop (length digits + 1) (digits ++ rest)) else plain_numeral (length digits) (number_value 10 digits)) (no_quote rest stops))
+    ∙ ap (λ t. if t then behind_quote (length digits + 1) (size_of digits) (drop (length digits + 1) (digits
+    ++ rest)) else plain_numeral (length digits) (number_value 10 digits)) (no_quote rest stops))
 
 narrow : (value : ℕ) → value < 2 ^ 32 → is_wide None value ≡ false
 unfolding is_wide width_of bits_of
@@ -331,10 +353,12 @@ digits_are : (before : ℕ) (size : Option ℕ) (signed : Bool) (letter base : �
 unfolding behind_sign behind_base
 digits_are before size signed letter base digits rest e all stops =
     ap (λ (o : Option ℕ). behind_base (before + 1) size signed o (digits ++ rest)) e
-    ∙ ap (λ (n : ℕ). counted (before + 1 + n) (based_numeral size signed base (take_while continues_digits (digits ++ rest)))) (run_is continues_digits digits rest all stops)
+    ∙ ap (λ (n : ℕ). counted (before + 1 + n) (based_numeral size signed base (take_while continues_digits (digits
+    ++ rest)))) (run_is continues_digits digits rest all stops)
     ∙ ap (λ (ds : List ℕ). counted (before + 1 + length digits) (based_numeral size signed base ds)) (run_taken continues_digits digits rest all stops)
 
-count_is : (m n : ℕ) (size : Option ℕ) (signed : Bool) (base : ℕ) (digits : List ℕ) → m ≡ n → counted m (based_numeral size signed base digits) ≡ counted n (based_numeral size signed base digits)
+count_is : (m n : ℕ) (size : Option ℕ) (signed : Bool) (base : ℕ) (digits : List ℕ) → m ≡ n
+    → counted m (based_numeral size signed base digits) ≡ counted n (based_numeral size signed base digits)
 count_is m n size signed base digits e = ap (λ (k : ℕ). counted k (based_numeral size signed base digits)) e
 
 -- behind the quote
@@ -344,7 +368,8 @@ behind_is : (before : ℕ) (size : Option ℕ) (sign digits rest : List ℕ) (le
 unfolding behind_quote begins_with_sign
 behind_is before size sign digits rest letter base signed no_sign is_base all stops =
     let no = no_sign_letter letter base is_base in
-    ap (λ (t : Bool). if t || eqb letter 83 then behind_sign (before + 1) size true (digits ++ rest) else behind_sign before size false (letter ∷ (digits ++ rest))) no.0
+    ap (λ (t : Bool). if t || eqb letter 83 then behind_sign (before + 1) size true (digits ++ rest) else behind_sign before size false (letter ∷ (digits
+    ++ rest))) no.0
     ∙ ap (λ (t : Bool). if t then behind_sign (before + 1) size true (digits ++ rest) else behind_sign before size false (letter ∷ (digits ++ rest))) no.1
     ∙ digits_are before size false letter base digits rest is_base all stops
     ∙ count_is (before + 1 + length digits) (before + length (letter ∷ digits)) size false base digits (omega arith)

@@ -1,5 +1,6 @@
 -- Reading comments and strings from left to right.
-use Rattle.std.proofs.Common.{◌≡◌, ◌≢◌, ℕ, ◌+◌, ◌-◌, ◌<◌, ◌≤◌, Bool, true, false, cond, eqb, List, [], ◌∷◌, ◌++◌, length, get_or, take, drop, Option, None, Some, Ok, Err, refl, sym, ◌∙◌, ap, subst, arith, append_assoc, append-nil, add-zero}
+use Rattle.std.proofs.Common.{◌≡◌, ◌≢◌, ℕ, ◌+◌, ◌-◌, ◌<◌, ◌≤◌, Bool, true, false, cond, eqb, List, [], ◌∷◌, ◌++◌, length, get_or, take, drop, Option, None}
+use Rattle.std.proofs.Common.{Some, Ok, Err, refl, sym, ◌∙◌, ap, subst, arith, append_assoc, append-nil, add-zero}
 use Rattle.std.specs.Prelude.{Result, nat_eq}
 use Rattle.std.specs.List.{starts_with}
 use Rattle.std.specs.Option.{option_map}
@@ -28,18 +29,25 @@ found_here : (i : ℕ) (total : Option ℕ) → behind i (Some 0) ≡ total → 
 found_here i total e = ap (λ (n : ℕ). Some n) (sym (add-zero i)) ∙ e
 
 -- the end of a block comment
-block-cons : (b : ℕ) (rest : List ℕ) (r : Bool) → r ≡ starts_with nat_eq (b ∷ rest) (42 ∷ (47 ∷ [])) → block_length (b ∷ rest) ≡ cond r (Some 0) (one_behind (block_length rest))
+block-cons : (b : ℕ) (rest : List ℕ) (r : Bool) → r ≡ starts_with nat_eq (b ∷ rest) (42 ∷ (47 ∷ []))
+    → block_length (b ∷ rest) ≡ cond r (Some 0) (one_behind (block_length rest))
 unfolding block_length
 block-cons b rest r e = ap (λ (t : Bool). cond t (Some 0) (one_behind (block_length rest))) (sym e)
 
-block-turn : (s : List ℕ) (i : ℕ) (r : Bool) → i < length s → r ≡ starts_with nat_eq (take (length s - i) (drop i s)) (42 ∷ (47 ∷ [])) → block_length (drop i s) ≡ cond r (Some 0) (one_behind (block_length (drop (i + 1) s)))
-block-turn s i r l e = at_drop_more block_length s i 0 l ∙ block-cons (get_or s i 0) (drop (i + 1) s) r (e ∙ ap (λ (xs : List ℕ). starts_with nat_eq xs (42 ∷ (47 ∷ []))) (rest_is s i l))
+block-turn : (s : List ℕ) (i : ℕ) (r : Bool) → i < length s → r ≡ starts_with nat_eq (take (length s - i) (drop i s)) (42 ∷ (47 ∷ []))
+    → block_length (drop i s) ≡ cond r (Some 0) (one_behind (block_length (drop (i + 1) s)))
+block-turn s i r l e = at_drop_more block_length s i 0 l ∙ block-cons (get_or s i 0) (drop (i + 1) s) r (e
+    ∙ ap (λ (xs : List ℕ). starts_with nat_eq xs (42 ∷ (47 ∷ []))) (rest_is s i l))
 
-pub block-here : (s : List ℕ) (i : ℕ) (r : Bool) (total : Option ℕ) → i < length s → r ≡ starts_with nat_eq (take (length s - i) (drop i s)) (42 ∷ (47 ∷ [])) → r ≡ true → behind i (block_length (drop i s)) ≡ total → Some i ≡ total
-block-here s i r total l e on inv = found_here i total (sym (ap (behind i) (block-turn s i r l e ∙ ap (λ (t : Bool). cond t (Some 0) (one_behind (block_length (drop (i + 1) s)))) on)) ∙ inv)
+pub block-here : (s : List ℕ) (i : ℕ) (r : Bool) (total : Option ℕ) → i < length s → r ≡ starts_with nat_eq (take (length s - i) (drop i s)) (42 ∷ (47 ∷ []))
+    → r ≡ true → behind i (block_length (drop i s)) ≡ total → Some i ≡ total
+block-here s i r total l e on inv = found_here i total (sym (ap (behind i) (block-turn s i r l e
+    ∙ ap (λ (t : Bool). cond t (Some 0) (one_behind (block_length (drop (i + 1) s)))) on)) ∙ inv)
 
-pub block-on : (s : List ℕ) (i : ℕ) (r : Bool) (total : Option ℕ) → i < length s → r ≡ starts_with nat_eq (take (length s - i) (drop i s)) (42 ∷ (47 ∷ [])) → r ≡ false → behind i (block_length (drop i s)) ≡ total → behind (i + 1) (block_length (drop (i + 1) s)) ≡ total
-block-on s i r total l e off inv = sym (ap (behind i) (block-turn s i r l e ∙ ap (λ (t : Bool). cond t (Some 0) (one_behind (block_length (drop (i + 1) s)))) off) ∙ behind-one i (block_length (drop (i + 1) s))) ∙ inv
+pub block-on : (s : List ℕ) (i : ℕ) (r : Bool) (total : Option ℕ) → i < length s → r ≡ starts_with nat_eq (take (length s - i) (drop i s)) (42 ∷ (47 ∷ []))
+    → r ≡ false → behind i (block_length (drop i s)) ≡ total → behind (i + 1) (block_length (drop (i + 1) s)) ≡ total
+block-on s i r total l e off inv = sym (ap (behind i) (block-turn s i r l e
+    ∙ ap (λ (t : Bool). cond t (Some 0) (one_behind (block_length (drop (i + 1) s)))) off) ∙ behind-one i (block_length (drop (i + 1) s))) ∙ inv
 
 pub block-none : (s : List ℕ) (i : ℕ) (total : Option ℕ) → length s ≤ i → behind i (block_length (drop i s)) ≡ total → None ≡ total
 unfolding block_length
@@ -49,27 +57,36 @@ block-none s i total l inv = sym (ap (behind i) (at_drop_all block_length s i l)
 abbrev quote_turn : Bool → ℕ → List ℕ → Bool → Bool → Option ℕ
 quote_turn taken b rest ends closed = cond ends None (cond closed (Some 0) (one_behind (quoted_length (takes_next taken b) rest)))
 
-quoted-turn : (s : List ℕ) (i : ℕ) (taken : Bool) → i < length s → quoted_length taken (drop i s) ≡ quote_turn taken (get_or s i 0) (drop (i + 1) s) (eqb (get_or s i 0) 10) (closes taken (get_or s i 0))
+quoted-turn : (s : List ℕ) (i : ℕ) (taken : Bool) → i < length s
+    → quoted_length taken (drop i s) ≡ quote_turn taken (get_or s i 0) (drop (i + 1) s) (eqb (get_or s i 0) 10) (closes taken (get_or s i 0))
 unfolding quoted_length
 quoted-turn s i taken l = at_drop_more (quoted_length taken) s i 0 l
 
-pub quoted-ends : (s : List ℕ) (i : ℕ) (taken : Bool) (total : Option ℕ) → i < length s → get_or s i 0 ≡ 10 → behind i (quoted_length taken (drop i s)) ≡ total → None ≡ total
+pub quoted-ends : (s : List ℕ) (i : ℕ) (taken : Bool) (total : Option ℕ) → i < length s → get_or s i 0 ≡ 10
+    → behind i (quoted_length taken (drop i s)) ≡ total → None ≡ total
 quoted-ends s i taken total l is inv =
-    sym (ap (behind i) (quoted-turn s i taken l ∙ ap (λ (b : ℕ). quote_turn taken (get_or s i 0) (drop (i + 1) s) (eqb b 10) (closes taken (get_or s i 0))) is)) ∙ inv
+    sym (ap (behind i) (quoted-turn s i taken l
+    ∙ ap (λ (b : ℕ). quote_turn taken (get_or s i 0) (drop (i + 1) s) (eqb b 10) (closes taken (get_or s i 0))) is)) ∙ inv
 
-quoted-goes : (s : List ℕ) (i : ℕ) (taken r : Bool) → i < length s → get_or s i 0 ≢ 10 → r ≡ closes taken (get_or s i 0) → quoted_length taken (drop i s) ≡ quote_turn taken (get_or s i 0) (drop (i + 1) s) false r
+quoted-goes : (s : List ℕ) (i : ℕ) (taken r : Bool) → i < length s → get_or s i 0 ≢ 10 → r ≡ closes taken (get_or s i 0)
+    → quoted_length taken (drop i s) ≡ quote_turn taken (get_or s i 0) (drop (i + 1) s) false r
 quoted-goes s i taken r l is e =
     quoted-turn s i taken l
     ∙ ap (λ (t : Bool). quote_turn taken (get_or s i 0) (drop (i + 1) s) t (closes taken (get_or s i 0))) (ne_eqb (get_or s i 0) 10 is)
     ∙ ap (λ (t : Bool). quote_turn taken (get_or s i 0) (drop (i + 1) s) false t) (sym e)
 
-pub quoted-here : (s : List ℕ) (i : ℕ) (taken r : Bool) (total : Option ℕ) → i < length s → get_or s i 0 ≢ 10 → r ≡ closes taken (get_or s i 0) → r ≡ true → behind i (quoted_length taken (drop i s)) ≡ total → Some i ≡ total
-quoted-here s i taken r total l is e on inv = found_here i total (sym (ap (behind i) (quoted-goes s i taken r l is e ∙ ap (λ (t : Bool). quote_turn taken (get_or s i 0) (drop (i + 1) s) false t) on)) ∙ inv)
+pub quoted-here : (s : List ℕ) (i : ℕ) (taken r : Bool) (total : Option ℕ) → i < length s → get_or s i 0 ≢ 10 → r ≡ closes taken (get_or s i 0) → r ≡ true
+    → behind i (quoted_length taken (drop i s)) ≡ total → Some i ≡ total
+quoted-here s i taken r total l is e on inv = found_here i total (sym (ap (behind i) (quoted-goes s i taken r l is e
+    ∙ ap (λ (t : Bool). quote_turn taken (get_or s i 0) (drop (i + 1) s) false t) on)) ∙ inv)
 
-pub quoted-on : (s : List ℕ) (i : ℕ) (taken r next : Bool) (total : Option ℕ) → i < length s → get_or s i 0 ≢ 10 → r ≡ closes taken (get_or s i 0) → r ≡ false → next ≡ takes_next taken (get_or s i 0) → behind i (quoted_length taken (drop i s)) ≡ total → behind (i + 1) (quoted_length next (drop (i + 1) s)) ≡ total
+pub quoted-on : (s : List ℕ) (i : ℕ) (taken r next : Bool) (total : Option ℕ) → i < length s → get_or s i 0 ≢ 10 → r ≡ closes taken (get_or s i 0)
+    → r ≡ false → next ≡ takes_next taken (get_or s i 0) → behind i (quoted_length taken (drop i s)) ≡ total
+    → behind (i + 1) (quoted_length next (drop (i + 1) s)) ≡ total
 quoted-on s i taken r next total l is e off n inv =
     ap (λ (t : Bool). behind (i + 1) (quoted_length t (drop (i + 1) s))) n
-    ∙ sym (ap (behind i) (quoted-goes s i taken r l is e ∙ ap (λ (t : Bool). quote_turn taken (get_or s i 0) (drop (i + 1) s) false t) off) ∙ behind-one i (quoted_length (takes_next taken (get_or s i 0)) (drop (i + 1) s)))
+    ∙ sym (ap (behind i) (quoted-goes s i taken r l is e ∙ ap (λ (t : Bool). quote_turn taken (get_or s i 0) (drop (i + 1) s) false t) off)
+    ∙ behind-one i (quoted_length (takes_next taken (get_or s i 0)) (drop (i + 1) s)))
     ∙ inv
 
 pub quoted-none : (s : List ℕ) (i : ℕ) (taken : Bool) (total : Option ℕ) → length s ≤ i → behind i (quoted_length taken (drop i s)) ≡ total → None ≡ total
@@ -81,14 +98,19 @@ squeezed-cons : (b : ℕ) (rest : List ℕ) (r : Bool) → r ≡ begins_with_gap
 unfolding squeezed
 squeezed-cons b rest r e = ap (λ (t : Bool). cond t (squeezed rest) (as_space b ∷ squeezed rest)) (sym e)
 
-squeezed-turn : (s : List ℕ) (i : ℕ) (r : Bool) → i < length s → r ≡ begins_with_gaps (take (length s - i) (drop i s)) → squeezed (drop i s) ≡ cond r (squeezed (drop (i + 1) s)) (as_space (get_or s i 0) ∷ squeezed (drop (i + 1) s))
+squeezed-turn : (s : List ℕ) (i : ℕ) (r : Bool) → i < length s → r ≡ begins_with_gaps (take (length s - i) (drop i s))
+    → squeezed (drop i s) ≡ cond r (squeezed (drop (i + 1) s)) (as_space (get_or s i 0) ∷ squeezed (drop (i + 1) s))
 squeezed-turn s i r l e = at_drop_more squeezed s i 0 l ∙ squeezed-cons (get_or s i 0) (drop (i + 1) s) r (e ∙ ap begins_with_gaps (rest_is s i l))
 
-pub squeezed-gap : (s : List ℕ) (i : ℕ) (r : Bool) → i < length s → r ≡ begins_with_gaps (take (length s - i) (drop i s)) → r ≡ true → squeezed (drop i s) ≡ squeezed (drop (i + 1) s)
-squeezed-gap s i r l e on = squeezed-turn s i r l e ∙ ap (λ (t : Bool). cond t (squeezed (drop (i + 1) s)) (as_space (get_or s i 0) ∷ squeezed (drop (i + 1) s))) on
+pub squeezed-gap : (s : List ℕ) (i : ℕ) (r : Bool) → i < length s → r ≡ begins_with_gaps (take (length s - i) (drop i s)) → r ≡ true
+    → squeezed (drop i s) ≡ squeezed (drop (i + 1) s)
+squeezed-gap s i r l e on = squeezed-turn s i r l e
+    ∙ ap (λ (t : Bool). cond t (squeezed (drop (i + 1) s)) (as_space (get_or s i 0) ∷ squeezed (drop (i + 1) s))) on
 
-pub squeezed-byte : (s : List ℕ) (i : ℕ) (r : Bool) → i < length s → r ≡ begins_with_gaps (take (length s - i) (drop i s)) → r ≡ false → squeezed (drop i s) ≡ as_space (get_or s i 0) ∷ squeezed (drop (i + 1) s)
-squeezed-byte s i r l e off = squeezed-turn s i r l e ∙ ap (λ (t : Bool). cond t (squeezed (drop (i + 1) s)) (as_space (get_or s i 0) ∷ squeezed (drop (i + 1) s))) off
+pub squeezed-byte : (s : List ℕ) (i : ℕ) (r : Bool) → i < length s → r ≡ begins_with_gaps (take (length s - i) (drop i s)) → r ≡ false
+    → squeezed (drop i s) ≡ as_space (get_or s i 0) ∷ squeezed (drop (i + 1) s)
+squeezed-byte s i r l e off = squeezed-turn s i r l e
+    ∙ ap (λ (t : Bool). cond t (squeezed (drop (i + 1) s)) (as_space (get_or s i 0) ∷ squeezed (drop (i + 1) s))) off
 
 pub squeezed-end : (s : List ℕ) (i : ℕ) → length s ≤ i → squeezed (drop i s) ≡ []
 unfolding squeezed
@@ -121,7 +143,8 @@ unfolding plain_byte
 good-plain b rest true e = rw e refl
 good-plain b rest false e = rw e refl
 
-good-escape : (b c : ℕ) (rest : List ℕ) (o : Option ℕ) → GoodAt (b ∷ (c ∷ rest)) (behind_first (option_map (λ d. (d, 2)) o) (bytes_of rest)) (option_map (λ d. (d, 2)) o)
+good-escape : (b c : ℕ) (rest : List ℕ) (o : Option ℕ)
+    → GoodAt (b ∷ (c ∷ rest)) (behind_first (option_map (λ d. (d, 2)) o) (bytes_of rest)) (option_map (λ d. (d, 2)) o)
 good-escape b c rest None = refl
 good-escape b c rest (Some d) = refl
 
@@ -153,7 +176,8 @@ pub first_byte-escape : (s : List ℕ) (o : Option ℕ) → 2 ≤ length s → g
 unfolding first_byte
 first_byte-escape [] o l is e = absurd (omega arith)
 first_byte-escape (b ∷ []) o l is e = absurd (omega arith)
-first_byte-escape (b ∷ (c ∷ s)) o l is e = ap (option_map (λ d. (d, 2))) e ∙ sym (ap (λ (x : ℕ). cond (eqb x 92) (option_map (λ d. (d, 2)) (escaped c)) (plain_byte b)) is)
+first_byte-escape (b ∷ (c ∷ s)) o l is e = ap (option_map (λ d. (d, 2))) e
+    ∙ sym (ap (λ (x : ℕ). cond (eqb x 92) (option_map (λ d. (d, 2)) (escaped c)) (plain_byte b)) is)
 
 pub first_byte-plain : (s : List ℕ) → 2 ≤ length s → get_or s 0 0 ≢ 92 → plain_byte (get_or s 0 0) ≡ first_byte s
 unfolding first_byte
@@ -166,7 +190,8 @@ abbrev pub joined : List ℕ → ℕ → Result (List ℕ) ℕ → Result (List 
 joined front n (Ok bytes) = Ok (front ++ bytes)
 joined front n (Err at) = Err (n + at)
 
-joined-first : (front : List ℕ) (i b n : ℕ) (read : Result (List ℕ) ℕ) → joined front i (behind_first (Some (b, n)) read) ≡ joined (front ++ b ∷ []) (i + n) read
+joined-first : (front : List ℕ) (i b n : ℕ) (read : Result (List ℕ) ℕ)
+    → joined front i (behind_first (Some (b, n)) read) ≡ joined (front ++ b ∷ []) (i + n) read
 joined-first front i b n (Ok bytes) = ap (λ (xs : List ℕ). Ok xs) (sym (append_assoc front (b ∷ []) bytes))
 joined-first front i b n (Err at) = let e : i + (n + at) ≡ i + n + at = omega arith in ap (λ (k : ℕ). Err k) e
 
@@ -175,12 +200,15 @@ good_at s i o l e =
     let whole : 0 < length (drop i s) = rw (at_drop_more (λ (xs : List ℕ). length xs) s i 0 l) (omega arith) in
     subst (λ (x : Option (ℕ × ℕ)). GoodAt (drop i s) (bytes_of (drop i s)) x) (sym (e ∙ ap first_byte (take_rest s i))) (good (drop i s) whole)
 
-pub bytes-stop : (s front : List ℕ) (i : ℕ) (total : Result (List ℕ) ℕ) → i < length s → None ≡ first_byte (take (length s - i) (drop i s)) → joined front i (bytes_of (drop i s)) ≡ total → total ≡ Err i
+pub bytes-stop : (s front : List ℕ) (i : ℕ) (total : Result (List ℕ) ℕ) → i < length s → None ≡ first_byte (take (length s - i) (drop i s))
+    → joined front i (bytes_of (drop i s)) ≡ total → total ≡ Err i
 bytes-stop s front i total l e inv = sym inv ∙ ap (joined front i) (good_at s i None l e) ∙ ap (λ (k : ℕ). Err k) (add-zero i)
 
-pub bytes-on : (s front : List ℕ) (i b n : ℕ) (total : Result (List ℕ) ℕ) → i < length s → Some (b, n) ≡ first_byte (take (length s - i) (drop i s)) → joined front i (bytes_of (drop i s)) ≡ total → joined (front ++ b ∷ []) (i + n) (bytes_of (drop (i + n) s)) ≡ total
+pub bytes-on : (s front : List ℕ) (i b n : ℕ) (total : Result (List ℕ) ℕ) → i < length s → Some (b, n) ≡ first_byte (take (length s - i) (drop i s))
+    → joined front i (bytes_of (drop i s)) ≡ total → joined (front ++ b ∷ []) (i + n) (bytes_of (drop (i + n) s)) ≡ total
 bytes-on s front i b n total l e inv =
-    sym (ap (joined front i) (good_at s i (Some (b, n)) l e ∙ ap (λ (xs : List ℕ). behind_first (Some (b, n)) (bytes_of xs)) (drop-drop n i s)) ∙ joined-first front i b n (bytes_of (drop (i + n) s))) ∙ inv
+    sym (ap (joined front i) (good_at s i (Some (b, n)) l e ∙ ap (λ (xs : List ℕ). behind_first (Some (b, n)) (bytes_of xs)) (drop-drop n i s))
+    ∙ joined-first front i b n (bytes_of (drop (i + n) s))) ∙ inv
 
 pub bytes-all : (s front : List ℕ) (i : ℕ) (total : Result (List ℕ) ℕ) → length s ≤ i → joined front i (bytes_of (drop i s)) ≡ total → total ≡ Ok front
 unfolding bytes_of

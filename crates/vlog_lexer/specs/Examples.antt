@@ -3,7 +3,9 @@ use Rattle.std.specs.Prelude.{◌≡◌, true, false, [], ◌∷◌, ◌++◌, S
 use Rattle.cov_types.specs.declared.pragma.PragmaKind.TheVariants.{BlockOff}
 use Rattle.vlog_lexer.specs.Bytes.{begins_number, continues_decimal, continues_digits, is_free, is_gap, is_line_feed, is_white}
 use Rattle.vlog_lexer.specs.Comments.{as_space, begins_with_gap, begins_with_gaps, pragma_of, squeezed, trimmed}
-use Rattle.vlog_lexer.specs.Numbers.{base_of, based_numeral, begins_with_quote, begins_with_sign, behind_base, behind_quote, behind_sign, bits_above, bits_of, digit_value, free_bits, free_digit, is_bad, is_digit_of, is_digit_or_underscore, is_in_order, is_wide, may_be_free, number_of, number_value, numeral, plain_numeral, size_of, value_digit, width_of}
+use Rattle.vlog_lexer.specs.Numbers.{base_of, based_numeral, begins_with_quote, begins_with_sign, behind_base, behind_quote, behind_sign, bits_above, bits_of}
+use Rattle.vlog_lexer.specs.Numbers.{digit_value, free_bits, free_digit, is_bad, is_digit_of, is_digit_or_underscore, is_in_order, is_wide, may_be_free}
+use Rattle.vlog_lexer.specs.Numbers.{number_of, number_value, numeral, plain_numeral, size_of, value_digit, width_of}
 use Rattle.vlog_lexer.specs.Pieces.{front_of, is_no_line_feed, name_piece, piece, refusal, string_piece}
 use Rattle.vlog_lexer.specs.Places.{column_after, line_after, place_after}
 use Rattle.vlog_lexer.specs.Texts.{bytes_of, closes, escaped, is_plain, plain_byte, quoted_length, takes_next}

@@ -1,5 +1,6 @@
 -- Numbers (IEEE 1364-2005, 3.5.1).
-use Rattle.std.specs.Prelude.{ℕ, ◌+◌, ◌-◌, ◌*◌, ◌%◌, ◌^◌, ◌==◌, ◌||◌, ◌&&◌, Bool, true, false, not, nat_le, nat_lt, min, List, [], ◌∷◌, length, take, drop, map, Option, None, Some, Result, Ok, Err, is_some, if◌then◌else◌}
+use Rattle.std.specs.Prelude.{ℕ, ◌+◌, ◌-◌, ◌*◌, ◌%◌, ◌^◌, ◌==◌, ◌||◌, ◌&&◌, Bool, true, false, not, nat_le, nat_lt, min, List, [], ◌∷◌, length, take, drop, map}
+use Rattle.std.specs.Prelude.{Option, None, Some, Result, Ok, Err, is_some, if◌then◌else◌}
 use Rattle.std.specs.Char.{is_ascii_hexdigit}
 use Rattle.std.specs.List.{list_all, prefix_len, take_while}
 use Rattle.vlog_lexer.specs.Bytes.{continues_decimal, continues_digits, is_free}

@@ -1,5 +1,6 @@
 -- The pieces of a text: white space, comments, skipped lines and tokens (IEEE 1364-2005, 3.1).
-use Rattle.std.specs.Prelude.{◌≡◌, ℕ, ◌+◌, ◌==◌, ◌||◌, Bool, false, not, List, [], ◌∷◌, drop, take, Option, None, Some, Result, Ok, Err, codes, nat_eq, if◌then◌else◌}
+use Rattle.std.specs.Prelude.{◌≡◌, ℕ, ◌+◌, ◌==◌, ◌||◌, Bool, false, not, List, [], ◌∷◌, drop, take, Option, None, Some, Result, Ok, Err, codes, nat_eq}
+use Rattle.std.specs.Prelude.{if◌then◌else◌}
 use Rattle.std.specs.List.{prefix_len, starts_with, take_while}
 use Rattle.std.specs.Str.{bytes_eq}
 use Rattle.cov_types.specs.declared.pragma.PragmaKind.{PragmaKind}

@@ -232,7 +232,8 @@ words_x =
 
 -- all reserved words
 abbrev pub words : Table TokenKind
-words = words_a ++ (words_b ++ (words_c ++ (words_d ++ (words_e ++ (words_f ++ (words_g ++ (words_h ++ (words_i ++ (words_j ++ (words_l ++ (words_m ++ (words_n ++ (words_o ++ (words_p ++ (words_r ++ (words_s ++ (words_t ++ (words_u ++ (words_v ++ (words_w ++ (words_x)))))))))))))))))))))
+words = words_a ++ (words_b ++ (words_c ++ (words_d ++ (words_e ++ (words_f ++ (words_g ++ (words_h ++ (words_i ++ (words_j ++ (words_l ++ (words_m
+    ++ (words_n ++ (words_o ++ (words_p ++ (words_r ++ (words_s ++ (words_t ++ (words_u ++ (words_v ++ (words_w ++ (words_x)))))))))))))))))))))
 
 -- the reserved word that these bytes are, if they are one
 unfoldable pub word_of : List ℕ → Option TokenKind

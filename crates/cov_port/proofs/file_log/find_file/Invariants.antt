@@ -7,6 +7,7 @@ use Rattle.cov_port.proofs.file_log.find_file.Given as goal
 
 abbrev pub invariant-loop-span : goal.invariant-loop-span
 invariant-loop-span l = record {
-  text : option_map_or (λ text. Some text) (held_in (files_in l.log (drop l.span-index l.spans)) l.name) (option_map (λ span. text_in l.log span) l.found) ≡ held_in (files_in l.log l.spans) l.name;
+  text : option_map_or (λ text. Some text) (held_in (files_in l.log (drop l.span-index l.spans)) l.name) (option_map (λ span. text_in l.log span) l.found)
+      ≡ held_in (files_in l.log l.spans) l.name;
   within : IfSome l.found (λ span. (span.text ≤ span.end) × (span.end ≤ length l.log));
 }

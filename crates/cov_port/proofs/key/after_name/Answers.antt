@@ -1,7 +1,8 @@
 use Rattle.std.proofs.Common.{sym, ap, ◌∙◌, arith}
 use Rattle.cov_port.specs.KeyTest.{completes, in_value}
 use Rattle.cov_port.proofs.FieldLemmas.{no_name, name_at_end, name_at_other, name_at_two, short_name, from_place}
-use Rattle.cov_port.proofs.key.after_name.Goals.{then-end-eq0-via-then-end-eq0, then-end-eq0-via-else-end-eq0+then-end-field, then-end-eq0-via-else-end-eq0+else-end-field+then-field-end-ne2}
+use Rattle.cov_port.proofs.key.after_name.Goals.{then-end-eq0-via-then-end-eq0, then-end-eq0-via-else-end-eq0+then-end-field}
+use Rattle.cov_port.proofs.key.after_name.Goals.{then-end-eq0-via-else-end-eq0+else-end-field+then-field-end-ne2}
 use Rattle.cov_port.proofs.key.after_name.Goals as goal
 
 pub returns-then-end-eq0-clause-ends : goal.returns-then-end-eq0-clause-ends

@@ -18,7 +18,8 @@ loop-range-preserved c =
     let more : take (i + 1) items ≡ take i items ++ r ∷ [] = take_more items i (record { from = 0; to = 0 }) within in
     let at : FirstAt c.loop-range.first (length (take i items)) =
     subst (λ (n : ℕ). FirstAt c.loop-range.first n) (sym (length-take-le i items (omega arith))) c.loop-range.invariant.first in
-    let before : c.loop-range.text ≡ lines_text (take i items) = c.loop-range.invariant.text ∙ ap (λ (ls : List LineRange). lines_text (take i ls)) (sym same) in
+    let before : c.loop-range.text ≡ lines_text (take i items) = c.loop-range.invariant.text
+    ∙ ap (λ (ls : List LineRange). lines_text (take i ls)) (sym same) in
     record {
       text = put ∙ ap (λ (text : List ℕ). with_run text c.loop-range.first r) before ∙ sym (lines_more (take i items) r c.loop-range.first at)
           ∙ ap lines_text (sym more) ∙ ap (λ (ls : List LineRange). lines_text (take (i + 1) ls)) same;

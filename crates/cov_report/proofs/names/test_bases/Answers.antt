@@ -15,7 +15,8 @@ returns-in-Ok-Some-clause-fault c =
     let name : c.as_slice-name.result.now ≡ get_or names k d = c.as_slice-name.ensures ∙ c.index-names-place.is in
     subst (λ (o : Option ReportFault). TellsFault o c.same_name.result)
     (ap same_name_of name ∙ sym (same_name_here names k d c.names-test.true c.names.invariant.so_far
-    (any_here names k d c.base_name.result (get by_bytes c.names.bases c.base_name.result) true (c.base_name.ensures ∙ ap base_name name) (c.names.invariant.has c.base_name.result)
+    (any_here names k d c.base_name.result (get by_bytes c.names.bases c.base_name.result) true (c.base_name.ensures
+    ∙ ap base_name name) (c.names.invariant.has c.base_name.result)
     (ap is_some (sym c.in-Ok-Some.ensures.old ∙ c.in-Ok-Some.field-0-is)))))
     c.same_name.ensures
 

@@ -15,7 +15,8 @@ returns-in_default-targets c = λ d k p h i.
     let x = subst (ExpressionIn d p.1) c.in-Some.is i in
     never _ (λ e.
     let q = assign_parts d k p e in
-    true≢false (sym (targets_stand d k p q (omega (arith, q.wide, x.width_is, c.wide-width.ensures.value, c.wide-width.ensures.small))) ∙ subst (TargetsIn d k p.0) c.in_default-targets.is h))
+    true≢false (sym (targets_stand d k p q (omega (arith, q.wide, x.width_is, c.wide-width.ensures.value, c.wide-width.ensures.small)))
+    ∙ subst (TargetsIn d k p.0) c.in_default-targets.is h))
 
 pub returns-then-not-is_width : goal.returns-then-not-is_width
 returns-then-not-is_width c = λ d k p h i.
@@ -45,5 +46,6 @@ returns c = λ d k p h i.
       targets_are = t.items_are;
       value_is = x.tree_is;
       nodes_are = omega (arith, t.nodes_are, x.nodes_are);
-      stands = assign_stands d k p t.stand x.stands (sym t.width_is ∙ same_number _ _ (sym c.is_width.ensures ∙ c.if-not-is_width.false) ∙ c.wide-width.ensures.value ∙ x.width_is) (omega (arith, t.nodes_are, x.nodes_are));
+      stands = assign_stands d k p t.stand x.stands (sym t.width_is ∙ same_number _ _ (sym c.is_width.ensures ∙ c.if-not-is_width.false)
+          ∙ c.wide-width.ensures.value ∙ x.width_is) (omega (arith, t.nodes_are, x.nodes_are));
     }

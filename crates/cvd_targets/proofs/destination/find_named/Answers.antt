@@ -21,13 +21,15 @@ returns-in_default-variable_at c = λ v e.
 pub returns-then-not-may_write : goal.returns-then-not-may_write
 returns-then-not-may_write c = λ v e.
     let b = below_some (2 ^ 32) v c.in-Some.var (sym c.in-Some.is ∙ e) in
-    let found = variable_found c.args.vars.now v c.in-Some-variable_at.found no_var (ap (slice_get c.args.vars.now) (sym b.1) ∙ sym c.variable_at.ensures ∙ c.in-Some-variable_at.is) in
+    let found = variable_found c.args.vars.now v c.in-Some-variable_at.found no_var (ap (slice_get c.args.vars.now) (sym b.1) ∙ sym c.variable_at.ensures
+    ∙ c.in-Some-variable_at.is) in
     and_false _ _ (ap (λ (y : Var). same_kind y.kind (kind_written c.args.kind)) found.1 ∙ sym c.may_write.ensures ∙ c.if-not-may_write.true)
 
 pub returns : goal.returns
 returns c = λ v e.
     let b = below_some (2 ^ 32) v c.in-Some.var (sym c.in-Some.is ∙ e) in
-    let found = variable_found c.args.vars.now v c.in-Some-variable_at.found no_var (ap (slice_get c.args.vars.now) (sym b.1) ∙ sym c.variable_at.ensures ∙ c.in-Some-variable_at.is) in
+    let found = variable_found c.args.vars.now v c.in-Some-variable_at.found no_var (ap (slice_get c.args.vars.now) (sym b.1) ∙ sym c.variable_at.ensures
+    ∙ c.in-Some-variable_at.is) in
     record {
       var_is = b.1;
       stands = both _ _ found.0 (ap (λ (y : Var). same_kind y.kind (kind_written c.args.kind)) found.1 ∙ sym c.may_write.ensures ∙ c.if-not-may_write.false);

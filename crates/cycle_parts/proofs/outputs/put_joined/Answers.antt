@@ -14,5 +14,6 @@ returns-clause-items c =
     let some : 0 < length outputs = grind (arith, common_steps, c.is_empty.ensures, c.if-is_empty.false) in
     let texts : List ℕ → List ℕ = λ vs. flat_map (λ v. 32 ∷ output_text s v) vs in
     let rest : List ℕ = texts (drop 1 outputs) in
-    c.put_behind.ensures.items ∙ ap (λ vs. c.put_output.new.line.items ++ texts vs) (take_rest outputs 1) ∙ ap (λ items. items ++ rest) c.put_output.ensures.items ∙ append_assoc old (output_text s (slice_index outputs 0)) rest
+    c.put_behind.ensures.items ∙ ap (λ vs. c.put_output.new.line.items ++ texts vs) (take_rest outputs 1)
+    ∙ ap (λ items. items ++ rest) c.put_output.ensures.items ∙ append_assoc old (output_text s (slice_index outputs 0)) rest
     ∙ ap (λ line. old ++ line) (sym (joined_of s outputs some))

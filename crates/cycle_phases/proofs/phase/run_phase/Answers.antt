@@ -30,7 +30,8 @@ loop-at-preserved g c =
           record {
             turning = subst (λ u. Turning sort d s (n + 1) u c.if-has_kind.effects old c.if-has_kind.steps) (sym (w.now-is ∙ w.run_process.ensures.state))
                 (subst (λ e. Turning sort d s (n + 1) (after d n c.loop-at.now) e old c.if-has_kind.steps) (sym (w.effects-is ∙ w.run_process.ensures.effects))
-                (subst (λ k. Turning sort d s (n + 1) (after d n c.loop-at.now) (added c.loop-at.effects run) old k) (sym (w.steps-is ∙ w.run_process.ensures.ticks)) next));
+                (subst (λ k. Turning sort d s (n + 1) (after d n c.loop-at.now) (added c.loop-at.effects run) old k) (sym (w.steps-is
+                ∙ w.run_process.ensures.ticks)) next));
             same = same;
           }
       | else-has_kind w ↦

@@ -38,7 +38,8 @@ loop-at-preserved c =
     elim c.if-is_combinational.branch [
       | then-is_combinational w ↦
           let kind : is_comb (kind_of d n) ≡ true = sym (ap (λ p. is_comb p.kind) is) ∙ sym c.is_combinational.ensures ∙ w.if-is_combinational.true in
-          let counters = w.counters.ensures ∙ ap (λ r. r.counters) (w.index-kept-at.is ∙ get_or_default kept n w.index-kept-at.result (none_raised 0) in_kept) in
+          let counters = w.counters.ensures ∙ ap (λ r. r.counters) (w.index-kept-at.is
+          ∙ get_or_default kept n w.index-kept-at.result (none_raised 0) in_kept) in
           record {
             counted = subst (Counted d kept (n + 1) old) (sym w.counts-is)
                 (one_counted d kept n old c.loop-at.counts w.raise.new.counts here c.requires.few kind c.loop-at.invariant.counted

@@ -12,6 +12,7 @@ loop-done-preserved c =
     let w = c.args.of.width in
     record {
       wide = grind (arith, common_steps);
-      number = c.concat-all.ensures.value ∙ ap (λ n. value.concat w n c.args.of.bits) c.loop-done.invariant.number ∙ repeated_more w c.args.of.bits c.loop-done.done;
+      number = c.concat-all.ensures.value ∙ ap (λ n. value.concat w n c.args.of.bits) c.loop-done.invariant.number
+          ∙ repeated_more w c.args.of.bits c.loop-done.done;
       begun = omega arith;
     }

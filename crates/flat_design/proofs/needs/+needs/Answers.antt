@@ -15,11 +15,13 @@ use Rattle.flat_design.proofs.needs.+needs.Goals as goal
 
 pub step_needs-returns-in-Set : goal.step_needs-returns-in-Set
 step_needs-returns-in-Set t c d k of ok =
-    c.updates_need.ensures ∙ ap (λ n. record { updates = n; bytes = 0; counters = 0 }) c.len.ensures ∙ rw c.in-Set.is (set_need d c.in-Set.targets c.in-Set.value)
+    c.updates_need.ensures ∙ ap (λ n. record { updates = n; bytes = 0; counters = 0 }) c.len.ensures
+    ∙ rw c.in-Set.is (set_need d c.in-Set.targets c.in-Set.value)
 
 pub step_needs-returns-in-Later : goal.step_needs-returns-in-Later
 step_needs-returns-in-Later t c d k of ok =
-    c.updates_need-in-Later.ensures ∙ ap (λ n. record { updates = n; bytes = 0; counters = 0 }) c.len-in-Later.ensures ∙ rw c.in-Later.is (later_need d c.in-Later.targets c.in-Later.value)
+    c.updates_need-in-Later.ensures ∙ ap (λ n. record { updates = n; bytes = 0; counters = 0 }) c.len-in-Later.ensures
+    ∙ rw c.in-Later.is (later_need d c.in-Later.targets c.in-Later.value)
 
 pub step_needs-steps_need-requires : goal.step_needs-steps_need-requires
 step_needs-steps_need-requires t c = (
@@ -69,7 +71,8 @@ pub step_needs-returns-in-Show : goal.step_needs-returns-in-Show
 step_needs-returns-in-Show t c d k of ok =
     let bytes = rw c.as_slice-in-Show.ensures at c.in_ok-bytes-in-Show.ensures in
     let formed = rw c.in-Show.is at ok in
-    ap (λ n. record { updates = 0; bytes = n; counters = 0 }) (bytes d of (show_formed d k c.in-Show.pieces formed)) ∙ rw c.in-Show.is (show_need d c.in-Show.pieces)
+    ap (λ n. record { updates = 0; bytes = n; counters = 0 }) (bytes d of (show_formed d k c.in-Show.pieces formed))
+    ∙ rw c.in-Show.is (show_need d c.in-Show.pieces)
 
 pub steps_need-step_needs-requires : goal.steps_need-step_needs-requires
 steps_need-step_needs-requires t c =

@@ -12,7 +12,8 @@ abbrev pub invariant-loop-piece : goal.invariant-loop-piece
 invariant-loop-piece l =
     let rest = drop l.piece-index l.pieces in
     record {
-      needs : (d : Design) → IsStateOf d l.state → IsTrue (list_all (is_piece d) l.pieces) → l.all + total (map (piece_length d) rest) ≡ total (map (piece_length d) l.pieces);
+      needs : (d : Design) → IsStateOf d l.state → IsTrue (list_all (is_piece d) l.pieces)
+          → l.all + total (map (piece_length d) rest) ≡ total (map (piece_length d) l.pieces);
       typed : (d : Design) → IsTrue (list_all (is_piece d) l.pieces) → IsTrue (list_all (is_piece d) rest);
       pieces : ArePiecesIn l.state rest;
     }

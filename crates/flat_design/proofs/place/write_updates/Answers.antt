@@ -17,6 +17,7 @@ loop-update-preserved c =
     let rest = drop (c.loop-update.update-index + 1) c.args.updates.now in
     let e = drop_here c.args.updates.now c.loop-update.update-index u c.loop-update-test.true c.update-item.is in
     record {
-      written = ap (λ w. all_written w (map part_of rest)) c.write_part.ensures ∙ sym (ap (λ l. all_written s (map part_of l)) e) ∙ c.loop-update.invariant.written;
+      written = ap (λ w. all_written w (map part_of rest)) c.write_part.ensures ∙ sym (ap (λ l. all_written s (map part_of l)) e)
+          ∙ c.loop-update.invariant.written;
       same_length = ap length c.write_part.ensures ∙ length_written s (part_of u) ∙ c.loop-update.invariant.same_length;
     }

@@ -32,7 +32,8 @@ run_steps-loop-step-preserved t c =
     let inv = rw e at c.loop-step.invariant in
     record {
       state = ap (λ u. (all_do rest u).state) c.run_step.ensures.state ∙ inv.state;
-      effects = ap (λ u. added c.run_step.new.effects (all_do rest u)) c.run_step.ensures.state ∙ ap (λ f. added f (all_do rest (does x s).state)) c.run_step.ensures.effects
+      effects = ap (λ u. added c.run_step.new.effects (all_do rest u)) c.run_step.ensures.state
+          ∙ ap (λ f. added f (all_do rest (does x s).state)) c.run_step.ensures.effects
           ∙ added_more old (does x s) (all_do rest (does x s).state) ∙ inv.effects;
       can = rw (c.run_step.ensures.state, c.run_step.ensures.effects) (can_rest s old x rest inv.can);
     }

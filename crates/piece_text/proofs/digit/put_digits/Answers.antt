@@ -20,7 +20,8 @@ loop-above-preserved c =
     let next : c.args.count - (done + 1) ≡ left = omega arith in
     let d : c.digit_of.result ≡ digit (n / base ^ left % base) = c.digit_of.ensures ∙ ap (λ m. digit (n / m % base)) p in
     record {
-      items = c.put.ensures.items ∙ ap (λ xs. xs ++ c.digit_of.result ∷ []) (c.loop-above.invariant.items ∙ ap (λ k. c.args.out.now.items ++ digits base done (n / base ^ k)) here)
+      items = c.put.ensures.items ∙ ap (λ xs. xs ++ c.digit_of.result ∷ []) (c.loop-above.invariant.items
+          ∙ ap (λ k. c.args.out.now.items ++ digits base done (n / base ^ k)) here)
           ∙ ap (λ x. (c.args.out.now.items ++ digits base done (n / base ^ (left + 1))) ++ x ∷ []) d
           ∙ append_assoc c.args.out.now.items (digits base done (n / base ^ (left + 1))) (digit (n / base ^ left % base) ∷ [])
           ∙ ap (λ l. c.args.out.now.items ++ l) (sym (next_digit base done left n) ∙ ap (λ k. digits base (done + 1) (n / base ^ k)) (sym next));

@@ -6,8 +6,10 @@ use Rattle.piece_text.proofs.show.columns_of.Goals as goal
 
 pub returns-then-signed : goal.returns-then-signed
 returns-then-signed c =
-    rw c.if-signed.true (ap (λ k. 1 + k) (c.decimal_length.ensures.value ∙ ap (λ n. length (decimal_of n)) (one_shifted c.args.width c.requires.some c.requires.most)) ∙ sym (signed_columns c.args.width))
+    rw c.if-signed.true (ap (λ k. 1 + k) (c.decimal_length.ensures.value
+    ∙ ap (λ n. length (decimal_of n)) (one_shifted c.args.width c.requires.some c.requires.most)) ∙ sym (signed_columns c.args.width))
 
 pub returns : goal.returns
 returns c =
-    rw c.if-signed.false (c.decimal_length-2.ensures.value ∙ ap (λ n. length (decimal_of n)) (ones_is c.args.width c.requires.most) ∙ sym (unsigned_columns c.args.width))
+    rw c.if-signed.false (c.decimal_length-2.ensures.value ∙ ap (λ n. length (decimal_of n)) (ones_is c.args.width c.requires.most)
+    ∙ sym (unsigned_columns c.args.width))

@@ -12,7 +12,8 @@ put_digits-requires-clause-room c =
 
 pub returns-then-short-clause-items : goal.returns-then-short-clause-items
 returns-then-short-clause-items c = rw c.if-short.true
-    (c.put_digits.ensures.items ∙ ap (λ xs. c.args.out.now.items ++ xs) (sym (trimmed_is c.args.base c.args.columns c.args.number c.digit_count-count.result c.requires.base c.digit_count-count.ensures)))
+    (c.put_digits.ensures.items ∙ ap (λ xs. c.args.out.now.items
+    ++ xs) (sym (trimmed_is c.args.base c.args.columns c.args.number c.digit_count-count.result c.requires.base c.digit_count-count.ensures)))
 
 pub put_digits-requires-2-clause-room : goal.put_digits-requires-2-clause-room
 put_digits-requires-2-clause-room c =

@@ -11,4 +11,5 @@ put_decimal-requires c =
 pub returns-in-Dec-clause-items : goal.returns-in-Dec-clause-items
 returns-in-Dec-clause-items c =
     let v = c.value.result in
-    rw c.in-Dec.is (c.put_decimal.ensures.items ∙ ap (λ text. c.args.out.now.items ++ text) (sym (dec_text_is c.args.state.now c.in-Dec.signed c.in-Dec.short c.in-Dec.e v.width v.bits c.value.ensures)))
+    rw c.in-Dec.is (c.put_decimal.ensures.items ∙ ap (λ text. c.args.out.now.items
+    ++ text) (sym (dec_text_is c.args.state.now c.in-Dec.signed c.in-Dec.short c.in-Dec.e v.width v.bits c.value.ensures)))

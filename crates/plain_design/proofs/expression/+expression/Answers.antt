@@ -1,6 +1,7 @@
 use Rattle.std.proofs.Common.{subst, arith}
 use Rattle.plain_design.specs.Seen.{IsSeen}
-use Rattle.plain_design.proofs.SeenLaws.{is_true, seen_index, seen_number, seen_var, seen_word, seen_part, seen_zero, seen_sign, seen_truncate, seen_unary, seen_binary, seen_join, seen_repeat, seen_choose}
+use Rattle.plain_design.proofs.SeenLaws.{is_true, seen_index, seen_number, seen_var, seen_word, seen_part, seen_zero, seen_sign, seen_truncate, seen_unary}
+use Rattle.plain_design.proofs.SeenLaws.{seen_binary, seen_join, seen_repeat, seen_choose}
 use Rattle.plain_design.proofs.expression.+expression.Goals as goal
 
 pub index-returns : goal.index-returns

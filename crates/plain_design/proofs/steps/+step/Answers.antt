@@ -50,7 +50,8 @@ one_step-returns-in-Show t c =
     let d = c.args.design.now in
     let mid = c.in_ok-left.left in
     let left = c.in_ok-left-in-Show.left in
-    rw c.in-Show.is (law.fine_show d c.args.kind c.args.counters c.in-Show.pieces c.args.budget mid left (sym c.may_tell.ensures ∙ c.if-not-may_tell.false) c.in_ok-left.ensures
+    rw c.in-Show.is (law.fine_show d c.args.kind c.args.counters c.in-Show.pieces c.args.budget mid left (sym c.may_tell.ensures
+    ∙ c.if-not-may_tell.false) c.in_ok-left.ensures
     (subst (λ ps. ArePiecesSeen d ps mid left) c.as_slice-in-Show.ensures c.in_ok-left-in-Show.ensures))
 
 pub all_steps-loop-step-preserved : goal.all_steps-loop-step-preserved

@@ -15,7 +15,8 @@ picks-init g c =
     let all = c.in_ok-gains.ensures.all in
     let none = c.new-picks.ensures in
     record {
-      gains = λ t. ap (λ (gs : List ℕ). get_or gs t 0) all ∙ sizes-at covers t ∙ sym (uncovered-all (marked c.in_ok-covered.covered) (points_of covers t) c.in_ok-covered.ensures.none);
+      gains = λ t. ap (λ (gs : List ℕ). get_or gs t 0) all ∙ sizes-at covers t
+          ∙ sym (uncovered-all (marked c.in_ok-covered.covered) (points_of covers t) c.in_ok-covered.ensures.none);
       len = ap length all ∙ (grind (arith, common_steps));
       covered = λ p. rw none (c.in_ok-covered.ensures.none p);
       room = λ t p among. let l = c.end.ensures t p (among-counts (points_of covers t) p among) in let len = c.in_ok-covered.ensures.len in omega arith;
@@ -28,10 +29,12 @@ picks-init g c =
     }
 
 pub overflow_cast-best : goal.overflow_cast-best
-overflow_cast-best g c = let l = c.greatest-best.ensures.given in let n = c.picks.invariant.len in let small : c.greatest-best.result < 2 ^ 32 = let f = c.in_ok-gains.ensures.few in omega arith in search rules
+overflow_cast-best g c = let l = c.greatest-best.ensures.given in let n = c.picks.invariant.len in
+    let small : c.greatest-best.result < 2 ^ 32 = let f = c.in_ok-gains.ensures.few in omega arith in search rules
 
 -- the gain of the best
-gained : (g : Rattle.test_rank.proofs.choose.choose.Given.Over) (c : goal.After-cover g) → c.get.result ≡ gain c.args.covers.now (tests_of c.picks.picks) c.greatest-best.result
+gained : (g : Rattle.test_rank.proofs.choose.choose.Given.Over) (c : goal.After-cover g)
+    → c.get.result ≡ gain c.args.covers.now (tests_of c.picks.picks) c.greatest-best.result
 gained g c = c.get.ensures ∙ gain-marked c.args.covers.now (tests_of c.picks.picks) (marked c.picks.covered) c.picks.gains c.greatest-best.result c.picks.invariant.covered c.picks.invariant.gains
 
 some : (g : Rattle.test_rank.proofs.choose.choose.Given.Over) (c : goal.After-cover g) → 0 < total c.picks.gains

@@ -8,8 +8,10 @@ use Rattle.test_rank.proofs.choose.cover.Goals.{then-not-has, else-not-has}
 use Rattle.test_rank.proofs.choose.cover.Goals as goal
 
 -- a point of the test has room
-has-room : (points covered now : List ℕ) (k : ℕ) (length_is : ℕ) → points ≡ now → ((p : ℕ) → is_among now p ≡ true → p < length_is) → k < length points → get_or points k 0 < length_is
-has-room points covered now k room is all h = all (get_or points k 0) (subst (λ (ps : List ℕ). is_among ps (get_or points k 0) ≡ true) is (counts-among points (get_or points k 0) (count-here points k h)))
+has-room : (points covered now : List ℕ) (k : ℕ) (length_is : ℕ) → points ≡ now → ((p : ℕ) → is_among now p ≡ true → p < length_is) → k < length points
+    → get_or points k 0 < length_is
+has-room points covered now k room is all h = all (get_or points k 0) (subst (λ (ps : List ℕ). is_among ps (get_or points k 0)
+    ≡ true) is (counts-among points (get_or points k 0) (count-here points k h)))
 
 pub has-requires : goal.has-requires
 has-requires g c =
@@ -35,7 +37,8 @@ points-preserved g c =
     let point = get_or points k 0 in
     let inv = c.points.invariant in
     let among : (p : ℕ) → is_among (take (k + 1) points) p ≡ (is_among (take k points) p || eqb p point) =
-    λ p. ap (λ (ps : List ℕ). is_among ps p) (ap (λ (m : ℕ). take m points) (add-one k) ∙ take-suc points k 0 c.points-test.true) ∙ among-pushed (take k points) point p in
+    λ p. ap (λ (ps : List ℕ). is_among ps p) (ap (λ (m : ℕ). take m points) (add-one k) ∙ take-suc points k 0 c.points-test.true)
+    ∙ among-pushed (take k points) point p in
     elim c.if-not-has.branch [
       | then-not-has w ↦
           let fresh : marked c.points.covered point ≡ false = sym c.has.ensures ∙ w.if-not-has.true in

@@ -8,10 +8,12 @@ use Rattle.test_rank.proofs.order.push_others.Goals.{then-not-has+in_ok-push, el
 use Rattle.test_rank.proofs.order.push_others.Goals as goal
 
 -- the rows from a test on
-chosen-step : (covers : List (List ℕ)) (c : ℕ → Bool) (n : ℕ) → n < length covers → c n ≡ true → unchosen_rows covers c n (drop n covers) ≡ unchosen_rows covers c (n + 1) (drop (n + 1) covers)
+chosen-step : (covers : List (List ℕ)) (c : ℕ → Bool) (n : ℕ) → n < length covers → c n ≡ true
+    → unchosen_rows covers c n (drop n covers) ≡ unchosen_rows covers c (n + 1) (drop (n + 1) covers)
 chosen-step covers c n h is = rw (add-one n, drop-cons covers n [] h) (rw is (ap (λ (k : ℕ). unchosen_rows covers c k (drop (suc n) covers)) (add-one n)))
 
-other-step : (covers : List (List ℕ)) (c : ℕ → Bool) (n : ℕ) → n < length covers → c n ≡ false → unchosen_rows covers c n (drop n covers) ≡ rank_row covers n 0 0 ∷ unchosen_rows covers c (n + 1) (drop (n + 1) covers)
+other-step : (covers : List (List ℕ)) (c : ℕ → Bool) (n : ℕ) → n < length covers → c n ≡ false
+    → unchosen_rows covers c n (drop n covers) ≡ rank_row covers n 0 0 ∷ unchosen_rows covers c (n + 1) (drop (n + 1) covers)
 other-step covers c n h is =
     rw (add-one n, drop-cons covers n [] h) (rw is (ap (λ (k : ℕ). rank_row covers n 0 0 ∷ unchosen_rows covers c k (drop (suc n) covers)) (add-one n)))
 
@@ -26,7 +28,8 @@ tests-preserved c =
           let points = w.points_of.ensures in
           ap (λ (rs : List RankRow). rs ++ unchosen_rows covers marks (n + 1) (drop (n + 1) covers)) (w.rows-is ∙ w.in_ok-push.ensures.ok)
           ∙ append_assoc c.tests.rows _ _
-          ∙ ap (λ (ps : List ℕ). c.tests.rows ++ (record { test = n; rank = 0; rank_points = 0; covered = length ps }) ∷ unchosen_rows covers marks (n + 1) (drop (n + 1) covers)) points
+          ∙ ap (λ (ps : List ℕ). c.tests.rows
+          ++ (record { test = n; rank = 0; rank_points = 0; covered = length ps }) ∷ unchosen_rows covers marks (n + 1) (drop (n + 1) covers)) points
           ∙ ap (λ (rs : List RankRow). c.tests.rows ++ rs) (sym (other-step covers marks n within (sym c.has.ensures ∙ w.if-not-has.true)))
           ∙ c.tests.invariant
       | else-not-has w ↦

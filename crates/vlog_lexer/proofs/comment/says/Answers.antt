@@ -29,7 +29,8 @@ loop-at-preserved c =
           record {
             within = omega arith;
             same = ap (λ (n : ℕ). bytes_eq (squeezed (drop (c.loop-at.at + 1) text)) (drop n words)) w.said-is
-                ∙ sym (same-on (as_space (get_or text c.loop-at.at 0)) (squeezed (drop (c.loop-at.at + 1) text)) words k some (sym w.as_space-byte.ensures ∙ w.if-byte-words.false))
+                ∙ sym (same-on (as_space (get_or text c.loop-at.at 0)) (squeezed (drop (c.loop-at.at + 1) text)) words k some (sym w.as_space-byte.ensures
+                ∙ w.if-byte-words.false))
                 ∙ sym (ap (λ (xs : List ℕ). bytes_eq xs (drop k words)) turn) ∙ c.loop-at.invariant.same;
           }
       | else-not-begins_with_gaps w ↦

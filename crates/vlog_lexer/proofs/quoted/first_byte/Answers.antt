@@ -15,4 +15,5 @@ pub returns-in-Some-clause-value : goal.returns-in-Some-clause-value
 returns-in-Some-clause-value c = first_byte-escape c.args.text.now _ c.in-len2-up.len_at_least c.if-byte-eq92.true c.in-Some.ensures
 
 pub returns-else-byte-eq92-clause-value : goal.returns-else-byte-eq92-clause-value
-returns-else-byte-eq92-clause-value c = c.plain_byte-else-byte-eq92.ensures.value ∙ first_byte-plain c.args.text.now c.in-len2-up.len_at_least c.if-byte-eq92.false
+returns-else-byte-eq92-clause-value c = c.plain_byte-else-byte-eq92.ensures.value
+    ∙ first_byte-plain c.args.text.now c.in-len2-up.len_at_least c.if-byte-eq92.false

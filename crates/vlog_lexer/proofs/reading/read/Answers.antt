@@ -1,5 +1,6 @@
 use Rattle.std.proofs.Common.{◌≤◌, ◌+◌, ◌-◌, ℕ, List, Err, take, drop, arith, ap, length, subst, sym, ◌∙◌}
-use Rattle.vlog_lexer.proofs.ReadingLemmas.{adding_answers, front_here, given_refusal, nothing_read_yet, piece_bytes, read_next, refused_answers, rest_length, take_short}
+use Rattle.vlog_lexer.proofs.ReadingLemmas.{adding_answers, front_here, given_refusal, nothing_read_yet, piece_bytes, read_next, refused_answers, rest_length}
+use Rattle.vlog_lexer.proofs.ReadingLemmas.{take_short}
 use Rattle.vlog_lexer.specs.LimitsKept.{AreCounts}
 use Rattle.vlog_lexer.specs.PlaceKept.{IsPosition}
 use Rattle.vlog_lexer.specs.Places.{place_after}
@@ -26,7 +27,8 @@ pub returns-in-Refused : goal.returns-in-Refused
 returns-in-Refused c =
     let text = c.args.text.now in let at = c.loop-at.at in let refusal = c.in-Refused.refusal in
     let front = front_here text at _ (given_refusal _ c.in-Err.stop refusal c.in-Refused.is c.in-Err.ensures.value) in
-    let here = c.place.ensures _ (c.after-here.ensures.value _ c.loop-at.invariant.position) ∙ ap (place_after c.args.file) (piece_bytes text at refusal.offset) in
+    let here = c.place.ensures _ (c.after-here.ensures.value _ c.loop-at.invariant.position)
+    ∙ ap (place_after c.args.file) (piece_bytes text at refusal.offset) in
     subst (λ (f : LexFault). Answers c.args.file text (Err f)) (sym c.fault_at.ensures)
     (refused_answers c.args.file text c.loop-at.found.tokens c.loop-at.found.pragmas at refusal c.place.result c.loop-at-test.true c.loop-at.invariant.read front here)
 

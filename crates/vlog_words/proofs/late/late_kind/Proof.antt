@@ -83,7 +83,8 @@ module _ {M : Type 1} {𝓤 : Ura M} (𝓛 : Logic 𝓤) (𝓜 : Model 𝓤 𝓛
     abbrev Arm : ℕ → Type 1
     Arm n = Sq 𝓛 (holding 𝓛 E ((1, val L.the_type the_laws d) ∷ [])) (prop (Wp 𝓤 𝓛.H 𝓣.C 𝓣.Λ E (makes n) (post 𝓤 𝓛.H then)))
 
-    arm : (n : ℕ) (made : TokenKind) → T (ltb zero n && leb n 256) → T (has_ty kind.mir (value n)) × WT (value n) → owned n ≡ K.the_row.own_val made (value n ∷ []) → made ≡ kind_of d → Arm n
+    arm : (n : ℕ) (made : TokenKind) → T (ltb zero n && leb n 256) → T (has_ty kind.mir (value n)) × WT (value n)
+        → owned n ≡ K.the_row.own_val made (value n ∷ []) → made ≡ kind_of d → Arm n
     arm n made small typed owns is =
         let c = f.clauses 𝓛 𝓜.mem 𝓡.returns in
         exec ! 𝓣.C 𝓣.Λ E (makes n) then $

@@ -6,6 +6,7 @@ use Rattle.cov_port.proofs.line_cutter.LineCutter.give.Goals as goal
 
 pub returns : goal.returns
 returns c =
-    let now : slice_range c.self.inside.buffer.items c.self.inside.start c.self.inside.end ≡ c.args.self.now.ahead = ap (λ (cutter : Cutter). cutter.ahead) c.self.view_is in
+    let now : slice_range c.self.inside.buffer.items c.self.inside.start c.self.inside.end
+    ≡ c.args.self.now.ahead = ap (λ (cutter : Cutter). cutter.ahead) c.self.view_is in
     let cut = given_range c.self.inside.buffer.items c.self.inside.start c.self.inside.end c.args.at (rw now c.requires) in
     rw (← c.self.view_is) (cc)

@@ -14,23 +14,28 @@ pub returns-in-Err-clause-fault : goal.returns-in-Err-clause-fault
 returns-in-Err-clause-fault c =
     let counts = entries (count_map c.args.merged.now) in
     let options = c.args.options.now in
-    let named = c.in_ok-chosen.ensures.names ∙ names_annotated options.all options.min counts c.as_slice.result.now (ap seen_tables c.as_slice.ensures.value ∙ c.in_ok-tables.ensures.tables) in
-    let is : prepare_fault options counts ≡ name_fault_if options.annotate c.as_slice-2.result.now = prepare_is options counts c.as_slice-2.result.now c.in_ok-tables.ensures.sound (c.as_slice-2.ensures ∙ named) in
+    let named = c.in_ok-chosen.ensures.names ∙ names_annotated options.all options.min counts c.as_slice.result.now (ap seen_tables c.as_slice.ensures.value
+    ∙ c.in_ok-tables.ensures.tables) in
+    let is : prepare_fault options counts
+    ≡ name_fault_if options.annotate c.as_slice-2.result.now = prepare_is options counts c.as_slice-2.result.now c.in_ok-tables.ensures.sound (c.as_slice-2.ensures ∙ named) in
     subst (λ (o : Option ReportFault). TellsFault o c.in-Err.fault) (sym is) c.in-Err.ensures.fault
 
 pub returns-clause-sound : goal.returns-clause-sound
 returns-clause-sound c =
     let counts = entries (count_map c.args.merged.now) in
     let options = c.args.options.now in
-    let named = c.in_ok-chosen.ensures.names ∙ names_annotated options.all options.min counts c.as_slice.result.now (ap seen_tables c.as_slice.ensures.value ∙ c.in_ok-tables.ensures.tables) in
-    let is : prepare_fault options counts ≡ name_fault_if options.annotate c.as_slice-2.result.now = prepare_is options counts c.as_slice-2.result.now c.in_ok-tables.ensures.sound (c.as_slice-2.ensures ∙ named) in
+    let named = c.in_ok-chosen.ensures.names ∙ names_annotated options.all options.min counts c.as_slice.result.now (ap seen_tables c.as_slice.ensures.value
+    ∙ c.in_ok-tables.ensures.tables) in
+    let is : prepare_fault options counts
+    ≡ name_fault_if options.annotate c.as_slice-2.result.now = prepare_is options counts c.as_slice-2.result.now c.in_ok-tables.ensures.sound (c.as_slice-2.ensures ∙ named) in
     is ∙ c.in_default.ensures.sound
 
 pub invariant_of-result : goal.invariant_of-result
 invariant_of-result c =
     let counts = entries (count_map c.args.merged.now) in
     let options = c.args.options.now in
-    let named = c.in_ok-chosen.ensures.names ∙ names_annotated options.all options.min counts c.as_slice.result.now (ap seen_tables c.as_slice.ensures.value ∙ c.in_ok-tables.ensures.tables) in
+    let named = c.in_ok-chosen.ensures.names ∙ names_annotated options.all options.min counts c.as_slice.result.now (ap seen_tables c.as_slice.ensures.value
+    ∙ c.in_ok-tables.ensures.tables) in
     record {
       tabled = c.in_ok-tables.ensures.tables;
       named = named;

@@ -6,5 +6,6 @@ pub returns : goal.returns
 returns c =
     let tests = c.self.inside.tests in
     let within : c.args.test < length tests = let e = c.len.ensures in let l = c.if-test-len.false in omega arith in
-    rw (← c.self.view_is) (c.as_slice-2.ensures ∙ c.index-as_slice-test.is ∙ ap (λ (xs : List (List ℕ)). get_or xs c.args.test c.index-as_slice-test.result) c.as_slice.ensures
+    rw (← c.self.view_is) (c.as_slice-2.ensures ∙ c.index-as_slice-test.is
+    ∙ ap (λ (xs : List (List ℕ)). get_or xs c.args.test c.index-as_slice-test.result) c.as_slice.ensures
     ∙ get_or-any tests c.args.test c.index-as_slice-test.result [] within)

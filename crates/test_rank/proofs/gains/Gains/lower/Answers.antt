@@ -8,7 +8,8 @@ sum c =
     let gains = c.self.inside.gains.items in
     let some : 0 < get_or gains c.args.test 0 = rw (c.self.view_is) c.requires in
     let within = within-some gains c.args.test some in
-    let value : c.index_mut.result.now ≡ get_or gains c.args.test 0 = c.index_mut.ensures.value ∙ get_or-any gains c.args.test c.index_mut.result.now 0 within in
+    let value : c.index_mut.result.now ≡ get_or gains c.args.test 0 = c.index_mut.ensures.value
+    ∙ get_or-any gains c.args.test c.index_mut.result.now 0 within in
     let put = total-set gains c.args.test (c.index_mut.result.now - 1) within in
     omega arith
 

@@ -14,10 +14,12 @@ lower-requires g c =
     omega arith
 
 -- what one test more lowers
-one-more : (before after old test k t : ℕ) (lists : List ℕ) (m : ℕ) → test ≡ get_or lists k 0 → before + count t (take k lists) ≡ old → count t (take (k + 1) lists) ≡ count t (take k lists) + cond (eqb t test) 1 0
+one-more : (before after old test k t : ℕ) (lists : List ℕ) (m : ℕ) → test ≡ get_or lists k 0 → before + count t (take k lists) ≡ old
+    → count t (take (k + 1) lists) ≡ count t (take k lists) + cond (eqb t test) 1 0
     → (t ≡ test → after + 1 ≡ before) → ((t ≡ test → ⊥) → after ≡ before) → after + count t (take (k + 1) lists) ≡ old
 one-more before after old test k t lists m is lowered counted here other =
-    elim (eqb t test) as (λ b. eqb t test ≡ b → count t (take (k + 1) lists) ≡ count t (take k lists) + cond b 1 0 → after + count t (take (k + 1) lists) ≡ old) [
+    elim (eqb t test) as (λ b. eqb t test ≡ b → count t (take (k + 1) lists) ≡ count t (take k lists) + cond b 1 0
+    → after + count t (take (k + 1) lists) ≡ old) [
       | true ↦ λ e n. let h = here (eqb-is t test e) in omega arith
       | false ↦ λ e n. let h = other (λ same. false≢true (sym e ∙ ap (λ (j : ℕ). eqb j test) same ∙ eqb-same test)) in omega arith
     ] refl counted
@@ -29,7 +31,8 @@ tests-preserved g c =
     let test = get_or tests k 0 in
     record {
       lowered = λ t. one-more (get_or c.tests.self t 0) (get_or c.lower.new.self t 0) (get_or c.args.self.now t 0) test k t tests 0 refl (c.tests.invariant.lowered t) (count-take_more t tests k c.tests-test.true)
-          (λ same. ap (λ (j : ℕ). get_or c.lower.new.self j 0 + 1) same ∙ c.lower.ensures.here ∙ ap (λ (j : ℕ). get_or c.tests.self j 0) (sym same)) (c.lower.ensures.others t);
+          (λ same. ap (λ (j : ℕ). get_or c.lower.new.self j 0 + 1) same ∙ c.lower.ensures.here
+          ∙ ap (λ (j : ℕ). get_or c.tests.self j 0) (sym same)) (c.lower.ensures.others t);
       len = c.lower.ensures.len ∙ c.tests.invariant.len;
       ticks = let a = c.lower.ensures.sum in let b = c.tick.ensures in let d = c.tests.invariant.ticks in omega arith;
     }

@@ -15,7 +15,8 @@ points-preserved c =
     let new : (p : ℕ) → tests_at c.keep_at.new.self p ≡ cond (eqb p at) kept (tests_at old p) =
     λ p. ap (λ (xs : List (List ℕ)). tests_at xs p) c.keep_at.ensures ∙ get_or-set_lists old at p kept within in
     record {
-      done = below_more _ _ (λ p l. let ne : p ≢ at = λ e. absurd (omega arith) in new p ∙ rw (eqb-other p at ne) (inv.done p l)) (new at ∙ rw (eqb-same at) (ap (filter (λ t. ltb t c.args.end)) (inv.rest at (omega arith))));
+      done = below_more _ _ (λ p l. let ne : p ≢ at = λ e. absurd (omega arith) in new p ∙ rw (eqb-other p at ne) (inv.done p l)) (new at
+          ∙ rw (eqb-same at) (ap (filter (λ t. ltb t c.args.end)) (inv.rest at (omega arith))));
       rest = λ p l. let ne : p ≢ at = λ e. absurd (omega arith) in new p ∙ rw (eqb-other p at ne) (inv.rest p (omega arith));
       len = ap length c.keep_at.ensures ∙ length-set old at kept ∙ inv.len;
     }
