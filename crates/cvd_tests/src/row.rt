@@ -6,22 +6,6 @@ use cvd_file::{CvdFault, decode, encode};
 use design_tree::Instrumented;
 use std::alloc::{AllocError, Global};
 
-/// The text that a row stands for: `|` is a line feed, `^` is byte 1, `=` is byte 2, and brackets are nothing.
-pub fn text_of(alloc: Global, row: &[u8]) -> Result<Vec<u8>, AllocError> {
-    let mut text = Vec::new(alloc);
-    for byte in row {
-        match *byte {
-            b'[' => {}
-            b']' => {}
-            b'|' => text.push(b'\n')?,
-            b'^' => text.push(1)?,
-            b'=' => text.push(2)?,
-            other => text.push(other)?,
-        }
-    }
-    Ok(text)
-}
-
 /// What is wrong with a text, or whether its design has it.
 pub fn answer(alloc: Global, text: &[u8]) -> Result<String, AllocError> {
     match decode(alloc, text) {

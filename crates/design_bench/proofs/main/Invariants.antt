@@ -1,4 +1,0 @@
-use Rattle.design_bench.proofs.main.Given as goal
-
-abbrev pub ghosts-run_rounds : goal.ghosts-run_rounds
-ghosts-run_rounds a = record { name = a.blank.name; parts = a.blank.parts }

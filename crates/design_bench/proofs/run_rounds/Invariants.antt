@@ -1,7 +1,0 @@
-use Rattle.std.proofs.Common.{◌≡◌}
-use Rattle.design_meaning.specs.States.{IsStateOf}
-use Rattle.flat_design.specs.Effects.{room_of_all}
-use Rattle.design_bench.proofs.run_rounds.Given as goal
-
-abbrev pub invariant-loop-round : goal.invariant-loop-round
-invariant-loop-round g l = IsStateOf l.x.design l.state × (l.effects.room ≡ room_of_all l.x.design)

@@ -1,4 +1,0 @@
-use Rattle.flat_tests.proofs.follower.row.Given as goal
-
-abbrev pub ghosts-run_first : goal.ghosts-run_first
-ghosts-run_first a = record { name = a.blank.name; parts = a.blank.parts }

@@ -1,3 +1,0 @@
-pub mod Fine
-pub mod Plain
-pub mod Seen
