@@ -10,7 +10,7 @@ use crate::plain_item::{
     always, assignments, cover_or_instances, initial, parameters, regs, wires,
 };
 use cov_types::{Place, Rows};
-use sqlite_items::Items;
+use sqlite_items::{Boxed, Items};
 use std::alloc::Global;
 use vlog_cursor::{Cursor, Word, listed, optional};
 use vlog_declarations::{NameRule, cover, name_place};
@@ -64,7 +64,7 @@ fn loop_items(
     alloc: Global,
     tokens: &mut Cursor<'_>,
     depth: usize,
-    head: ForHead,
+    head: Boxed<ForHead>,
     begun: (Place, NamePlace),
 ) -> Result<ItemKind, ReadFault>
     ensures { Reads (spec.loop_items (spec.item_within depth) head begun tokens.old) result tokens.new }
@@ -73,6 +73,7 @@ fn loop_items(
     let end = tokens.place();
     tokens.expect(Word::End)?;
     let (begin, block) = begun;
+    let head = head.into_inner();
     Ok(ItemKind::Loop {
         name: head.name,
         from: head.from,
@@ -91,7 +92,7 @@ fn loop_items(
 fn generate_for(alloc: Global, tokens: &mut Cursor<'_>, depth: usize) -> Result<ItemKind, ReadFault>
     ensures { Reads (spec.generate_for (spec.item_within depth) tokens.old) result tokens.new }
 {
-    let head = for_head(alloc, tokens)?;
+    let head = Boxed::new(alloc, for_head(alloc, tokens)?)?;
     let begun = named_begin(alloc, tokens)?;
     loop_items(alloc, tokens, depth, head, begun)
 }
@@ -151,9 +152,12 @@ fn branch(alloc: Global, tokens: &mut Cursor<'_>, depth: usize) -> Result<GenBod
 fn if_arm(alloc: Global, tokens: &mut Cursor<'_>, depth: usize) -> Result<GenArm, ReadFault>
     ensures { Reads (spec.if_arm (spec.item_within depth) tokens.old) result tokens.new }
 {
-    let test = condition(alloc, tokens)?;
+    let test = Boxed::new(alloc, condition(alloc, tokens)?)?;
     let body = branch(alloc, tokens, depth)?;
-    Ok(GenArm { test, body })
+    Ok(GenArm {
+        test: test.into_inner(),
+        body,
+    })
 }
 
 /// The tests of a generate `if` with their branches, and the branch of the last `else`.

@@ -3,6 +3,7 @@
 ghost use Rattle.vlog_reading.specs.ReadItems as spec;
 ghost use Rattle.vlog_reading.specs.Reading.{Reads};
 
+use sqlite_items::Boxed;
 use std::alloc::Global;
 use vlog_cursor::{Cursor, Word, listed};
 use vlog_declarations::{
@@ -18,8 +19,9 @@ use vlog_tree::{ItemKind, NamePlace};
 pub fn wires(alloc: Global, tokens: &mut Cursor<'_>) -> Result<ItemKind, ReadFault>
     ensures { Reads (spec.wires tokens.old) result tokens.new }
 {
-    let (signed, range) = signed_range(alloc, tokens)?;
+    let declared = Boxed::new(alloc, signed_range(alloc, tokens)?)?;
     let names = listed(alloc, tokens, &WireRule)?;
+    let (signed, range) = declared.into_inner();
     Ok(ItemKind::Wire {
         signed,
         range,
@@ -32,8 +34,9 @@ pub fn wires(alloc: Global, tokens: &mut Cursor<'_>) -> Result<ItemKind, ReadFau
 pub fn regs(alloc: Global, tokens: &mut Cursor<'_>) -> Result<ItemKind, ReadFault>
     ensures { Reads (spec.regs tokens.old) result tokens.new }
 {
-    let (signed, range) = signed_range(alloc, tokens)?;
+    let declared = Boxed::new(alloc, signed_range(alloc, tokens)?)?;
     let names = listed(alloc, tokens, &RegRule)?;
+    let (signed, range) = declared.into_inner();
     Ok(ItemKind::Reg {
         signed,
         range,
@@ -88,11 +91,11 @@ pub fn always(alloc: Global, tokens: &mut Cursor<'_>) -> Result<ItemKind, ReadFa
 fn instances(alloc: Global, tokens: &mut Cursor<'_>, of: NamePlace) -> Result<ItemKind, ReadFault>
     ensures { Reads (spec.instances of tokens.old) result tokens.new }
 {
-    let params = parameter_values(alloc, tokens)?;
+    let params = Boxed::new(alloc, parameter_values(alloc, tokens)?)?;
     let made = listed(alloc, tokens, &InstanceRule)?;
     Ok(ItemKind::Instances {
         module: of.name,
-        params,
+        params: params.into_inner(),
         made,
     })
 }
