@@ -1,7 +1,8 @@
 pub mod Numbers
-pub mod Growing
 pub mod Noting
 pub mod Layouts
 pub mod Owned
 pub mod Linked
+pub mod Grown
+pub mod Columns
 pub mod Ordered

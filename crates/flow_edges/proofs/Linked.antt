@@ -1,5 +1,5 @@
 -- The graph of what leads to what, span by span.
-use Rattle.std.proofs.Common.{◌≡◌, ◌∙◌, sym, ap, subst, refl, ℕ, ◌+◌, ◌<◌, ◌≤◌, arith, inl, inr, true, false, List, [], ◌∷◌, ◌++◌, length, get_or, take, IsTrue}
+use Rattle.std.proofs.Common.{◌≡◌, ◌∙◌, sym, ap, subst, ℕ, ◌+◌, ◌<◌, ◌≤◌, arith, inl, inr, true, List, [], ◌∷◌, ◌++◌, length, get_or, take, IsTrue}
 use Rattle.std.specs.Prelude.{Contains}
 use Rattle.std.proofs.lemmas.Bool.{cases_lt}
 use Rattle.std.proofs.lemmas.List.{take_more}
@@ -20,15 +20,14 @@ use Rattle.flow_uses.specs.declared.uses.Uses.{Uses}
 use Rattle.flow_uses.specs.Uses.{AreUsesOf}
 use Rattle.flow_edges.specs.declared.owners.Owners.{Owners}
 use Rattle.flow_edges.specs.declared.stretch.Stretch.{Stretch}
-use Rattle.flow_edges.specs.Adding.{Adds}
+use Rattle.flow_hubs.specs.Adding.{Adds}
 use Rattle.flow_edges.specs.Stretches.{AreNumbered, IsAmong, bits_of, columns_of, column_number}
 use Rattle.flow_edges.specs.Owning.{AreOwners, IsOfWord, Settles, slots_of}
-use Rattle.flow_edges.specs.Linking.{DrivesIn, IsGraphOf, LeadsTo, MayLead, OfRows, OfSpan, OfSpans}
-use Rattle.flow_edges.proofs.Growing.{adds_none, adds_as, adds_more}
+use Rattle.flow_edges.specs.Linking.{DrivesIn, MayLead, OfRows, OfSpan}
+use Rattle.flow_hubs.proofs.Growing.{adds_none, adds_as, adds_more}
 use Rattle.flow_spans.proofs.OfVars.{bit_from, span_in}
 use Rattle.flow_edges.proofs.Numbers.{IsInside, among_bits, among_columns, bit_stretch, bit_with, column_stretch, column_with}
-use Rattle.flow_edges.proofs.Owned.{HasIt, one_has, spans_have, settles_below}
-use Rattle.flow_edges.proofs.Noting.{no_span, one_more, one_kept, one_there}
+use Rattle.flow_edges.proofs.Owned.{HasIt, one_has, spans_have}
 
 -- ---- a row of processes
 
@@ -100,6 +99,9 @@ module _ (d : Design) (o : Owners) (owners : AreOwners d o) (s : Span) (i : IsSp
   pub columns_inside : (r : Stretch) → r ≡ columns_of (slots_of d) s → IsInside r (before wide o.slots.items (length o.slots.items))
   columns_inside r e = subst (λ slots. IsInside r (before wide slots (length slots))) (sym owners.slots) (column_stretch (slots_of d) s r e numbered in_slots)
 
+  pub columns_within : (r : Stretch) → r ≡ columns_of (slots_of d) s → IsInside r (before wide (slots_of d) (length (slots_of d)))
+  columns_within r e = column_stretch (slots_of d) s r e numbered in_slots
+
   pub bits_inside : (r : Stretch) → IsOfWord s → r ≡ bits_of (slots_of d) s → IsInside r (before size o.slots.items (length o.slots.items))
   bits_inside r one e = subst (λ slots. IsInside r (before size slots (length slots))) (sym owners.slots) (bit_stretch (slots_of d) s r e numbered in_slots one)
 
@@ -146,7 +148,7 @@ module _ (d : Design) (o : Owners) (owners : AreOwners d o) (s : Span) (i : IsSp
     all_words : (s.word ≡ 0) × (s.word_end ≡ (var_of d s.var).words)
     all_words = elim i.one_or_all [ inl one ↦ absurd (many one) | inr all ↦ all ]
 
-    by_column : (p at : ℕ) → IsAmong (columns_of (slots_of d) s) at → HasEdge o.columns.items at p → DrivesIn d p s
+    pub by_column : (p at : ℕ) → IsAmong (columns_of (slots_of d) s) at → HasEdge o.columns.items at p → DrivesIn d p s
     by_column p at a h =
         let k : (c : ℕ) × (s.place ≤ c) × (c < s.place_end) × (column_number (slots_of d) s.var c ≡ at) = column_with (slots_of d) s at a in
         let b : (b : Bit) × (b.var ≡ s.var) × (b.place ≡ k.0) × IsBitOf d b × Settles d p b =
@@ -161,37 +163,9 @@ module _ (d : Design) (o : Owners) (owners : AreOwners d o) (s : Span) (i : IsSp
           settled = b.4;
         }
 
-    pub span_whole : (a c : Graph) → Adds a c (OfRows d o.columns.items (columns_of (slots_of d) s) q) → Adds a c (OfSpan d s q)
-    span_whole a c h =
-        adds_as a c (OfRows d o.columns.items (columns_of (slots_of d) s) q) (OfSpan d s q) h
-        (λ p x r. (r.0, r.1, by_column p r.2 r.3 r.4))
-        (λ p x t. (
-          t.0,
-          t.1,
-          column_number (slots_of d) t.2.bit.var t.2.bit.place,
-          among_columns (slots_of d) s t.2.bit t.2.within,
-          owners.to_column t.2.bit p t.2.here t.2.settled,
-        ))
-
--- ---- several spans
-
-pub spans_none : (d : Design) (spans : List Span) (g : Graph) (q : ℕ) → Adds g g (OfSpans d (take 0 spans) q)
-spans_none d spans g q = adds_none g (OfSpans d (take 0 spans) q) (λ i x r. absurd (omega (arith, r.3.1)))
-
-pub spans_more : (d : Design) (spans : List Span) (n q : ℕ) (a b c : Graph) → n < length spans → Adds a b (OfSpans d (take n spans) q)
-    → Adds b c (OfSpan d (get_or spans n no_span) q) → Adds a c (OfSpans d (take (n + 1) spans) q)
-spans_more d spans n q a b c lt first then =
-    adds_more a b c (OfSpans d (take n spans) q) (OfSpan d (get_or spans n no_span) q) (OfSpans d (take (n + 1) spans) q) first then
-    (λ i x r. (r.0, r.1, r.2, one_kept spans n r.2 lt r.3, r.4))
-    (λ i x r. (r.0, r.1, get_or spans n no_span, one_there spans n (get_or spans n no_span) lt refl, r.2))
-    (λ i x t. elim (one_more spans n t.2 lt t.3) [
-      | inl old ↦ inl (t.0, t.1, t.2, old, t.4)
-      | inr is ↦ inr (t.0, t.1, subst (DrivesIn d i) is t.4)
-    ])
-
 -- ---- one process
 
-leads_by : (d : Design) (u : Uses) (q p : ℕ) (s : Span) → IsTrue (settles (kind_of d q)) → AreUsesOf d q u → MayLead d p q → Contains u.reads s
+pub leads_by : (d : Design) (u : Uses) (q p : ℕ) (s : Span) → IsTrue (settles (kind_of d q)) → AreUsesOf d q u → MayLead d p q → Contains u.reads s
     → DrivesIn d p s → Leads d p q
 leads_by d u q p s settled uses may stands by = record {
   from = by.settled.kind;
@@ -204,12 +178,12 @@ leads_by d u q p s settled uses may stands by = record {
 }
 
 -- a span that q reads and p drives
-record Meeting (d : Design) (u : Uses) (p : ℕ) : Type 0 where
+pub record Meeting (d : Design) (u : Uses) (p : ℕ) : Type 0 where
   pub span : Span
   pub stands : Contains u.reads span
   pub by : DrivesIn d p span
 
-meets_at : (d : Design) (u : Uses) (q p : ℕ) → AreUsesOf d q u → Leads d p q → Meeting d u p
+pub meets_at : (d : Design) (u : Uses) (q p : ℕ) → AreUsesOf d q u → Leads d p q → Meeting d u p
 meets_at d u q p uses l =
     let s : HasIt u.reads l.along = one_has u.reads l.along (uses.reads l.along l.here ∙ l.read) in
     record {
@@ -217,37 +191,3 @@ meets_at d u q p uses l =
       stands = s.stands;
       by = record { bit = l.along; here = l.here; within = s.within; settled = record { kind = l.from; driven = l.driven } };
     }
-
-pub process_read : (d : Design) (u : Uses) (q : ℕ) (a c : Graph) → IsTrue (settles (kind_of d q)) → AreUsesOf d q u
-    → Adds a c (OfSpans d u.reads q) → Adds a c (LeadsTo d q)
-process_read d u q a c settled uses h =
-    adds_as a c (OfSpans d u.reads q) (LeadsTo d q) h
-    (λ i x r. (r.0, subst (Leads d i) (sym r.0) (leads_by d u q i r.2 settled uses (subst (MayLead d i) r.0 r.1) r.3 r.4)))
-    (λ i x t. let l : Leads d i q = subst (Leads d i) t.0 t.1 in let m : Meeting d u i = meets_at d u q i uses l in
-    (t.0, t.1.apart, m.span, m.stands, m.by))
-
-pub process_idle : (d : Design) (q : ℕ) (g : Graph) → settles (kind_of d q) ≡ false → Adds g g (LeadsTo d q)
-process_idle d q g idle = adds_none g (LeadsTo d q)
-    (λ i x r. absurd (let on : IsTrue (settles (kind_of d q)) = subst (λ y. IsTrue (settles (kind_of d y))) r.0 r.1.to in cc (on, idle)))
-
--- ---- all processes
-
-abbrev pub LeadsBelow : Design → ℕ → ℕ → ℕ → Type 0
-LeadsBelow d n i x = (x < n) × Leads d i x
-
-pub links_none : (d : Design) (g : Graph) → Adds g g (LeadsBelow d 0)
-links_none d g = adds_none g (LeadsBelow d 0) (λ i x r. absurd (omega (arith, r.0)))
-
-pub links_more : (d : Design) (n : ℕ) (a b c : Graph) → Adds a b (LeadsBelow d n) → Adds b c (LeadsTo d n) → Adds a c (LeadsBelow d (n + 1))
-links_more d n a b c first then =
-    adds_more a b c (LeadsBelow d n) (LeadsTo d n) (LeadsBelow d (n + 1)) first then
-    (λ i x r. (omega (arith, r.0), r.1)) (λ i x r. (omega (arith, r.0), r.1))
-    (λ i x t. elim (cases_lt x n) [ inl less ↦ inl (less, t.1) | inr more ↦ inr (omega (arith, more, t.0), t.1) ])
-
-pub links_all : (d : Design) (n : ℕ) (a c : Graph) → length a ≡ length d.processes → ((i x : ℕ) → HasEdge a i x → ⊥) → length d.processes ≤ n
-    → Adds a c (LeadsBelow d n) → IsGraphOf d c
-links_all d n a c many none end h = record {
-  as_many = h.as_many ∙ many;
-  leads = λ p q e. elim (h.only p q e) [ inl old ↦ absurd (none p q old) | inr r ↦ r.1 ];
-  edges = λ p q l. h.there p q (let lt : q < length d.processes = settles_below d q l.to in omega (arith, lt, end), l);
-}

@@ -8,10 +8,10 @@ use Rattle.flow_marks.specs.declared.slot.Slot.{Slot}
 use Rattle.flow_marks.specs.declared.span.Span.{Span}
 use Rattle.flow_marks.specs.Slots.{before, size, wide}
 use Rattle.flow_edges.specs.declared.owners.Owners.{Owners}
-use Rattle.flow_edges.specs.Adding.{Adds}
+use Rattle.flow_hubs.specs.Adding.{Adds}
 use Rattle.flow_edges.specs.Stretches.{AreNumbered, IsAmong, bits_of, columns_of}
 use Rattle.flow_edges.specs.Owning.{IsTable, IsOfWord, Notes}
-use Rattle.flow_edges.proofs.Growing.{adds_none, adds_as, adds_more}
+use Rattle.flow_hubs.proofs.Growing.{adds_none, adds_as, adds_more}
 
 -- what spans name of words, of columns as a whole, and of columns
 abbrev pub InBits : List Slot → (ℕ → Span → Type 0) → ℕ → ℕ → Type 0

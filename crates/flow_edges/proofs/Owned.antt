@@ -22,7 +22,7 @@ use Rattle.flow_spans.specs.Reads.{IsSpanOf, has_bit}
 use Rattle.flow_uses.specs.declared.uses.Uses.{Uses}
 use Rattle.flow_uses.specs.Uses.{AreUsesOf, no_uses}
 use Rattle.flow_edges.specs.declared.owners.Owners.{Owners}
-use Rattle.flow_edges.specs.Adding.{Adds}
+use Rattle.flow_hubs.specs.Adding.{Adds}
 use Rattle.flow_edges.specs.Stretches.{AreNumbered, IsAmong, columns_of, column_number}
 use Rattle.flow_edges.specs.Owning.{AreOwners, IsBlank, IsNamed, IsOfWord, Notes, Settles, slots_of}
 use Rattle.flow_spans.proofs.OfVars.{IsSlotOf, slot_is, slots_many, bit_in, span_in, spans_in}

@@ -1,4 +1,3 @@
-pub mod Adding
 pub mod Stretches
 pub mod Owning
 pub mod Linking

@@ -13,7 +13,7 @@ use Rattle.flow_marks.specs.declared.span.Span.{Span}
 use Rattle.flow_marks.specs.Slots.{before, size, wide, number, slots_from}
 use Rattle.flow_uses.specs.declared.uses.Uses.{Uses}
 use Rattle.flow_edges.specs.declared.owners.Owners.{Owners}
-use Rattle.flow_edges.specs.Adding.{Adds}
+use Rattle.flow_hubs.specs.Adding.{Adds}
 use Rattle.flow_edges.specs.Stretches.{AreNumbered, IsAmong, bits_of, columns_of, column_number}
 
 -- there is a row for each bit, and two for each column

@@ -3,10 +3,11 @@
 #![tactic(auto)]
 
 mod answer;
+mod joined;
 mod links;
 mod lists;
 mod owners;
 mod stretch;
 
 pub use answer::order_of;
-pub use flow_graph::Sorted;
+pub use flow_hubs::Sorted;

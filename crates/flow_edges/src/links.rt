@@ -1,16 +1,19 @@
-ghost use Rattle.std.specs.Prelude.{◌≡◌, ◌≤◌, ◌<◌, ◌^◌, ◌↔◌, ℕ, All, IsTrue, IfOk, Contains, length, slice_index_or};
+ghost use Rattle.std.specs.Prelude.{◌≡◌, ◌≤◌, ◌<◌, ◌+◌, ◌^◌, ◌↔◌, ℕ, All, IsTrue, IfOk, Contains, length, slice_index_or};
+ghost use Rattle.circuit_run.specs.Kinds.{settles};
+ghost use Rattle.design_meaning.specs.Processes.{kind_of};
 ghost use Rattle.flow_graph.specs.Graph.{HasEdge};
 ghost use Rattle.flow_spans.specs.Reads.{IsSpanOf};
 ghost use Rattle.flow_uses.specs.Uses.{AreUsesOf, no_uses};
-ghost use Rattle.flow_edges.specs.Adding.{Adds};
+ghost use Rattle.flow_hubs.specs.Adding.{Adds};
 ghost use Rattle.flow_edges.specs.Owning.{AreOwners};
-ghost use Rattle.flow_edges.specs.Linking.{IsGraphOf, LeadsTo, MayLead, OfRows, OfSpan, OfSpans};
+ghost use Rattle.flow_edges.specs.Linking.{AreLinks, AreSized, Grows, MayLead, OfRows, OfSpan};
 
-use crate::lists::{no_rows, note};
+use crate::lists::note_all;
 use crate::owners::{Owners, settles};
 use crate::stretch::{Stretch, bits_of, columns_of};
 use cov_types::{NoMemory, ProcessKind, Rows};
 use design_tree::Design;
+use flow_hubs::{no_rows, note};
 use flow_uses::{Span, Uses};
 use std::alloc::Global;
 
@@ -78,8 +81,8 @@ fn link_rows(
     Ok(())
 }
 
-/// Puts a reader of a span behind the processes that drive a bit of it.
-fn link_span(
+/// Puts a reader of a span in one word behind the processes that drive a bit of it.
+fn link_word(
     design: &Design,
     owners: &Owners,
     span: Span,
@@ -88,77 +91,117 @@ fn link_span(
 ) -> Result<(), NoMemory>
     requires owners { AreOwners design.now owners.now }
     requires span { IsSpanOf design.now.vars span }
+    requires one { span.word_end ≡ 1 + span.word }
     requires many { length next.old.items ≡ length design.now.processes }
     ensures { IfOk result (λ _. Adds next.old.items next.new.items (OfSpan design.now span q)) }
 {
     let slots = owners.slots.as_slice();
+    let bits = bits_of(slots, span);
     let columns = columns_of(slots, span);
-    if span.word_end == 1 + span.word {
-        let bits = bits_of(slots, span);
-        link_rows(design, owners.bits.as_slice(), bits, q, next)?;
-        link_rows(design, owners.whole.as_slice(), columns, q, next)?;
-        return Ok(());
-    }
-    link_rows(design, owners.columns.as_slice(), columns, q, next)?;
+    link_rows(design, owners.bits.as_slice(), bits, q, next)?;
+    link_rows(design, owners.whole.as_slice(), columns, q, next)?;
     Ok(())
 }
 
-/// Puts a reader of several spans behind the processes that drive a bit of one.
+/// Which processes lead to others, and which read columns.
+#[derive(Drop)]
+pub(crate) struct Links {
+    /// For each process those that read a bit at a constant word which it drives.
+    pub(crate) next: Vec<Rows<u32>>,
+    /// For each column those that read it in all words.
+    pub(crate) readers: Vec<Rows<u32>>,
+}
+
+/// Notes that a process reads a span.
+fn link_span(
+    design: &Design,
+    owners: &Owners,
+    span: Span,
+    q: u32,
+    links: &mut Links,
+) -> Result<(), NoMemory>
+    requires owners { AreOwners design.now owners.now }
+    requires span { IsSpanOf design.now.vars span }
+    requires sized { AreSized design.now links.old }
+    ensures { IfOk result (λ _. Grows design.now links.old links.new (λ x s. (x ≡ q) × (s ≡ span))) }
+{
+    if span.word_end == 1 + span.word {
+        link_word(design, owners, span, q, &mut links.next)?;
+        return Ok(());
+    }
+    let columns = columns_of(owners.slots.as_slice(), span);
+    note_all(&mut links.readers, columns, q)?;
+    Ok(())
+}
+
+/// Notes that a process reads several spans.
 fn link_reads(
     design: &Design,
     owners: &Owners,
     spans: &[Span],
     q: u32,
-    next: &mut Vec<Rows<u32>>,
+    links: &mut Links,
 ) -> Result<(), NoMemory>
     requires owners { AreOwners design.now owners.now }
     requires spans { All (IsSpanOf design.now.vars) spans.now }
-    requires many { length next.old.items ≡ length design.now.processes }
-    ensures { IfOk result (λ _. Adds next.old.items next.new.items (OfSpans design.now spans.now q)) }
+    requires sized { AreSized design.now links.old }
+    ensures { IfOk result (λ _. Grows design.now links.old links.new (λ x s. (x ≡ q) × Contains spans.now s)) }
 {
     for span in spans {
-        link_span(design, owners, *span, q, next)?;
+        link_span(design, owners, *span, q, links)?;
     }
     Ok(())
 }
 
-/// Puts a process behind those that lead to it.
+/// Notes what a process reads: nothing where it doesn't settle.
 fn link_process(
     design: &Design,
     owners: &Owners,
     uses: &Uses,
     q: u32,
-    next: &mut Vec<Rows<u32>>,
+    links: &mut Links,
 ) -> Result<(), NoMemory>
     requires owners { AreOwners design.now owners.now }
     requires uses { AreUsesOf design.now q uses.now }
     requires to { q < length design.now.processes }
-    requires many { length next.old.items ≡ length design.now.processes }
-    ensures { IfOk result (λ _. Adds next.old.items next.new.items (LeadsTo design.now q)) }
+    requires sized { AreSized design.now links.old }
+    ensures { IfOk result (λ _. Grows design.now links.old links.new (λ x s. (x ≡ q) × IsTrue (settles (kind_of design.now q)) × Contains uses.now.reads s)) }
 {
     if settles(design.processes.as_slice()[q as usize].kind) {
-        link_reads(design, owners, uses.reads.as_slice(), q, next)?;
+        link_reads(design, owners, uses.reads.as_slice(), q, links)?;
         return Ok(());
     }
     Ok(())
 }
 
-/// For each process those to which it leads.
+/// For so many processes and columns, none of which leads to others and is read.
+fn no_links(alloc: Global, processes: usize, columns: usize) -> Result<Links, NoMemory>
+    ensures next { IfOk result (λ l. length l.next.items ≡ processes) }
+    ensures readers { IfOk result (λ l. length l.readers.items ≡ columns) }
+    ensures none { IfOk result (λ l. (i x : ℕ) → HasEdge l.next.items i x → ⊥) }
+    ensures unread { IfOk result (λ l. (i x : ℕ) → HasEdge l.readers.items i x → ⊥) }
+{
+    let next = no_rows(alloc, processes)?;
+    let readers = no_rows(alloc, columns)?;
+    Ok(Links { next, readers })
+}
+
+/// What the processes of a design read, put behind those that drive it.
 pub(crate) fn links_of(
     alloc: Global,
     design: &Design,
     owners: &Owners,
     uses: &[Uses],
-) -> Result<Vec<Rows<u32>>, NoMemory>
+) -> Result<Links, NoMemory>
     requires owners { AreOwners design.now owners.now }
     requires many { length uses.now ≡ length design.now.processes }
     requires few { length design.now.processes < 2 ^ 32 }
     requires uses { (p : ℕ) → p < length design.now.processes → AreUsesOf design.now p (slice_index_or uses.now p no_uses) }
-    ensures { IfOk result (λ next. IsGraphOf design.now next.items) }
+    ensures { IfOk result (AreLinks design.now uses.now) }
 {
-    let mut next = no_rows(alloc, uses.len())?;
+    let mut links = no_links(alloc, uses.len(), owners.columns.len())?;
     for q in 0..uses.len() {
-        link_process(design, owners, &uses[q], q as u32, &mut next)?;
+        link_process(design, owners, &uses[q], q as u32, &mut links)?;
     }
-    Ok(next)
+    Ok(links)
 }

@@ -6,10 +6,11 @@ ghost use Rattle.flow_marks.specs.Slots.{AreFew, IsSpan};
 ghost use Rattle.flow_uses.specs.Uses.{AreUsesOf, no_uses};
 ghost use Rattle.flow_edges.specs.Owning.{AreOwners, IsBlank, IsTable, IsNamed, Notes};
 
-use crate::lists::{no_rows, note_all};
+use crate::lists::note_all;
 use crate::stretch::{bits_of, columns_of};
 use cov_types::{NoMemory, ProcessKind, Rows, Var};
 use design_tree::Design;
+use flow_hubs::no_rows;
 use flow_marks::{Layout, Slot, laid_out};
 use flow_uses::{Span, Uses};
 use std::alloc::Global;

@@ -12,6 +12,7 @@ use Rattle.flow_graph.specs.declared.order.Mark.{Mark}
 use Rattle.flow_graph.specs.declared.order.Mark.TheVariants.{New, Open, Listed}
 use Rattle.flow_graph.specs.Graph.{Graph, next_of, HasEdge, Chain, IsOnCircle, IsGraph}
 use Rattle.flow_graph.specs.Listing.{Trail, IsPath, IsWalk}
+use Rattle.flow_graph.proofs.Turned.{listed_apart}
 use Rattle.flow_graph.proofs.Trails.{zeros, last_of, last_at, trail_chain, trail_push, trail_pop, end_at, edge_ends, total, sum_of, sum_within, sum_set}
 
 none_in : (x : ℕ) → Contains [] x → ⊥
@@ -397,3 +398,9 @@ listing_same g root cursor marks post l lt h = listing_more g root cursor marks 
         go New e = absurd (h e)
         go Open e = absurd (none_in root (l.sorting.opened root e))
         go Listed e = l.sorting.done root e
+
+-- what was visited before lies on no circle
+pub none_below : (g : Graph) (root : ℕ) (cursor : List ℕ) (marks : List Mark) (post : List ℕ) → Listing g root cursor marks post
+    → (q : ℕ) → q < root → IsOnCircle g q → ⊥
+none_below g root cursor marks post l q lt ([], c) = c
+none_below g root cursor marks post l q lt (x ∷ xs, (e, c)) = listed_apart g post l.sorting.list q (l.met q lt) xs c

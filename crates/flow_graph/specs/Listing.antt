@@ -2,7 +2,9 @@
 use Rattle.std.specs.Prelude.{◌≡◌, ◌≢◌, ℕ, ◌<◌, ◌≤◌, List, [], ◌∷◌, length, slice_index, slice_index_or, Contains}
 use Rattle.flow_graph.specs.declared.order.Mark.{Mark}
 use Rattle.flow_graph.specs.declared.order.Mark.TheVariants.{New, Open, Listed}
-use Rattle.flow_graph.specs.Graph.{Graph, next_of, HasEdge}
+use Rattle.flow_graph.specs.declared.order.Walked.{Walked}
+use Rattle.flow_graph.specs.declared.order.Walked.TheVariants.{All, CircleFrom}
+use Rattle.flow_graph.specs.Graph.{Graph, next_of, HasEdge, IsOnCircle}
 
 -- each of the list is a successor of the one before, which is p at first
 abbrev pub Trail : Graph → ℕ → List ℕ → Type 0
@@ -31,3 +33,8 @@ pub record IsWalk (g : Graph) (path cursor : List ℕ) (marks : List Mark) (post
   pub done : (x : ℕ) → slice_index_or marks x New ≡ Listed → Contains post x
   pub listed : (k : ℕ) → k < length post → slice_index_or marks (slice_index post k) New ≡ Listed
   pub list : IsListed g post
+
+-- each vertex is listed, or there is a circle, but none through a vertex below the root
+abbrev pub IsWalked : Graph → Walked → Type 0
+IsWalked g (All post) = IsListed g post.items × ((p : ℕ) → p < length g → Contains post.items p)
+IsWalked g (CircleFrom root) = ((p : ℕ) × IsOnCircle g p) × ((q : ℕ) → q < root → IsOnCircle g q → ⊥)

@@ -1,9 +1,9 @@
-ghost use Rattle.std.specs.Prelude.{◌<◌, ◌^◌, ◌↔◌, length, IfOk, IsTrue, All};
-ghost use Rattle.flow_graph.specs.Graph.{IsGraph};
+ghost use Rattle.std.specs.Prelude.{ℕ, ◌<◌, ◌^◌, ◌↔◌, length, IfOk, IsTrue, All};
+ghost use Rattle.flow_graph.specs.Graph.{IsGraph, IsLeastCircle, IsOnCircle};
 ghost use Rattle.flow_graph.specs.Verdict.{IsSorted};
 
 use crate::circle::circle_from;
-use crate::order::list_all;
+use crate::order::{Walked, list_all};
 use cov_types::{NoMemory, Rows};
 use std::alloc::Global;
 
@@ -30,21 +30,38 @@ pub fn is_graph(next: &[Rows<u32>]) -> bool
     next.iter().all(|row| is_row(row, next.len()))
 }
 
+/// The circle that begins with the least vertex on any, where none lies below a vertex.
+fn least_circle(alloc: Global, next: &[Rows<u32>], from: u32) -> Result<Rows<u32>, NoMemory>
+    requires graph { IsGraph next.now }
+    requires few { length next.now < 2 ^ 32 }
+    requires some { (p : ℕ) × IsOnCircle next.now p }
+    requires none { (q : ℕ) → q < from → IsOnCircle next.now q → ⊥ }
+    ensures { IfOk result (IsLeastCircle next.now) }
+{
+    for p in from as usize..next.len() {
+        if let Some(circle) = circle_from(alloc, next, p as u32)? {
+            return Ok(Rows::from_vec(circle));
+        }
+    }
+    unreachable!()
+}
+
 /// An order of the vertices in which each edge leads on, or the circle that begins with the least vertex on any. Its
-/// time grows with the edges where there is an order, and with the edges times the vertices where there is a circle.
+/// time grows with the edges where there is an order; where there is a circle, with the edges times the vertices that are asked for one:
+/// those from the first on that reaches a circle to the least on any.
 pub fn sort(alloc: Global, next: &[Rows<u32>]) -> Result<Sorted, NoMemory>
     requires graph { IsGraph next.now }
     requires few { length next.now < 2 ^ 32 }
     ensures { IfOk result (IsSorted next.now) }
 {
-    if let Some(mut post) = list_all(alloc, next)? {
-        post.reverse();
-        return Ok(Sorted::Order(Rows::from_vec(post)));
-    }
-    for p in 0..next.len() {
-        if let Some(circle) = circle_from(alloc, next, p as u32)? {
-            return Ok(Sorted::Circle(Rows::from_vec(circle)));
+    match list_all(alloc, next)? {
+        Walked::All(mut post) => {
+            post.reverse();
+            Ok(Sorted::Order(Rows::from_vec(post)))
+        }
+        Walked::CircleFrom(from) => {
+            let circle = least_circle(alloc, next, from)?;
+            Ok(Sorted::Circle(circle))
         }
     }
-    unreachable!()
 }

@@ -1,7 +1,7 @@
-ghost use Rattle.std.specs.Prelude.{◌≡◌, ℕ, ◌<◌, ◌≤◌, ◌^◌, length, slice_index_or, IfOk, IfSome, IfNone, MatchBool, Contains, []};
+ghost use Rattle.std.specs.Prelude.{◌≡◌, ℕ, ◌<◌, ◌^◌, length, slice_index_or, IfOk, MatchBool, Contains, []};
 ghost use Rattle.flow_graph.specs.Graph.{IsGraph, IsOnCircle};
 ghost use Rattle.flow_graph.specs.declared.order.Mark.TheVariants.{New};
-ghost use Rattle.flow_graph.specs.Listing.{IsWalk, IsListed};
+ghost use Rattle.flow_graph.specs.Listing.{IsWalk, IsWalked};
 
 use crate::circle::successor;
 use cov_types::{NoMemory, Rows};
@@ -64,12 +64,20 @@ fn visit(
     Ok(false)
 }
 
-/// Lists each vertex after its successors, or says that there is a circle.
-pub fn list_all(alloc: Global, next: &[Rows<u32>]) -> Result<Option<Vec<u32>>, NoMemory>
+/// What a walk over all vertices finds.
+#[derive(Drop)]
+pub enum Walked {
+    /// Each vertex, after its successors.
+    All(Vec<u32>),
+    /// There is a circle, but none through a vertex below this one.
+    CircleFrom(u32),
+}
+
+/// Lists each vertex after its successors, or says from which vertex on there is a circle.
+pub fn list_all(alloc: Global, next: &[Rows<u32>]) -> Result<Walked, NoMemory>
     requires graph { IsGraph next.now }
     requires few { length next.now < 2 ^ 32 }
-    ensures list { IfOk result (λ a. IfSome a (λ post. IsListed next.now post.items × ((p : ℕ) → p < length next.now → Contains post.items p))) }
-    ensures none { IfOk result (λ a. IfNone a ((p : ℕ) × IsOnCircle next.now p)) }
+    ensures { IfOk result (IsWalked next.now) }
 {
     let mut cursor = vec![in alloc; 0; next.len()]?;
     let mut marks = vec![in alloc; Mark::New; next.len()]?;
@@ -78,11 +86,11 @@ pub fn list_all(alloc: Global, next: &[Rows<u32>]) -> Result<Option<Vec<u32>>, N
         match marks[root] {
             Mark::New => {
                 if visit(alloc, next, root as u32, &mut cursor, &mut marks, &mut post)? {
-                    return Ok(None);
+                    return Ok(Walked::CircleFrom(root as u32));
                 }
             }
             _ => {}
         }
     }
-    Ok(Some(post))
+    Ok(Walked::All(post))
 }

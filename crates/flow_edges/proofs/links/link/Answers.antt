@@ -1,6 +1,6 @@
 use Rattle.std.proofs.Common.{◌≡◌, sym, subst}
 use Rattle.flow_edges.specs.Linking.{MayLead}
-use Rattle.flow_edges.proofs.Growing.{adds_as}
+use Rattle.flow_hubs.proofs.Growing.{adds_as}
 use Rattle.flow_edges.proofs.links.link.Goals as goal
 
 pub returns-then-may_lead : goal.returns-then-may_lead

@@ -1,7 +1,7 @@
 use Rattle.std.proofs.Common.{◌≡◌, ◌∙◌, subst, ℕ, List}
 use Rattle.std.specs.Prelude.{Contains}
 use Rattle.std.proofs.lemmas.List.{take_all}
-use Rattle.flow_edges.specs.Adding.{Adds}
+use Rattle.flow_hubs.specs.Adding.{Adds}
 use Rattle.flow_edges.specs.Linking.{MayLead}
 use Rattle.flow_edges.proofs.Linked.{each_more}
 use Rattle.flow_edges.proofs.links.link_each.Goals as goal

@@ -1,4 +1,4 @@
-use Rattle.flow_edges.specs.Adding.{Adds}
+use Rattle.flow_hubs.specs.Adding.{Adds}
 use Rattle.flow_edges.proofs.Linked.{Each}
 use Rattle.flow_edges.proofs.links.link_each.Given as goal
 

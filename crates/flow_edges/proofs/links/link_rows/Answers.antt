@@ -3,7 +3,7 @@ use Rattle.std.specs.Prelude.{All, Contains}
 use Rattle.std.proofs.lemmas.List.{get_or_read}
 use Rattle.std.proofs.lemmas.List.Elements.{Contains-get_or}
 use Rattle.flow_graph.specs.Graph.{next_of}
-use Rattle.flow_edges.specs.Adding.{Adds}
+use Rattle.flow_hubs.specs.Adding.{Adds}
 use Rattle.flow_edges.specs.Linking.{MayLead}
 use Rattle.flow_edges.proofs.Linked.{rows_more, rows_all}
 use Rattle.flow_edges.proofs.links.link_rows.Goals as goal

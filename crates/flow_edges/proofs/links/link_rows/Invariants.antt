@@ -1,4 +1,4 @@
-use Rattle.flow_edges.specs.Adding.{Adds}
+use Rattle.flow_hubs.specs.Adding.{Adds}
 use Rattle.flow_edges.proofs.Linked.{InRows}
 use Rattle.flow_edges.proofs.links.link_rows.Given as goal
 

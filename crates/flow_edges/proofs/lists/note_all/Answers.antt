@@ -1,7 +1,7 @@
 use Rattle.std.proofs.Common.{◌≡◌, ◌+◌, arith, inl, inr}
 use Rattle.std.proofs.lemmas.Bool.{cases_lt}
 use Rattle.flow_edges.specs.Stretches.{IsAmong}
-use Rattle.flow_edges.proofs.Growing.{adds_none, adds_as, adds_more}
+use Rattle.flow_hubs.proofs.Growing.{adds_none, adds_as, adds_more}
 use Rattle.flow_edges.proofs.lists.note_all.Goals as goal
 
 pub loop-at-init : goal.loop-at-init

@@ -1,5 +1,5 @@
 use Rattle.std.proofs.Common.{◌≡◌}
-use Rattle.flow_edges.specs.Adding.{Adds}
+use Rattle.flow_hubs.specs.Adding.{Adds}
 use Rattle.flow_edges.specs.Stretches.{IsAmong}
 use Rattle.flow_edges.proofs.lists.note_all.Given as goal
 

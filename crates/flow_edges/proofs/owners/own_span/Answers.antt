@@ -2,7 +2,7 @@ use Rattle.std.proofs.Common.{◌≡◌, ◌∙◌, ap, subst, refl, List, lengt
 use Rattle.flow_marks.specs.declared.slot.Slot.{Slot}
 use Rattle.flow_marks.specs.Slots.{before, size, wide}
 use Rattle.flow_edges.specs.declared.stretch.Stretch.{Stretch}
-use Rattle.flow_edges.specs.Adding.{Adds}
+use Rattle.flow_hubs.specs.Adding.{Adds}
 use Rattle.flow_edges.specs.Stretches.{IsAmong, bits_of, columns_of}
 use Rattle.flow_edges.proofs.Numbers.{IsInside, column_stretch, bit_stretch}
 use Rattle.flow_edges.proofs.Noting.{notes_word, notes_whole}

@@ -1,16 +1,16 @@
-use Rattle.std.proofs.Common.{arith, ◌<◌, length, below_more}
-use Rattle.flow_graph.proofs.Turned.{circle_inside, order_from}
+use Rattle.std.proofs.Common.{subst}
+use Rattle.flow_graph.specs.declared.order.Walked.{Walked}
+use Rattle.flow_graph.specs.Listing.{IsWalked}
+use Rattle.flow_graph.proofs.Turned.{order_from}
 use Rattle.flow_graph.proofs.answer.sort.Goals as goal
 
-pub returns-in-Some : goal.returns-in-Some
-returns-in-Some c =
-    let h = rw c.in-Some.is at c.in_ok-post.ensures in
-    rw (c.from_vec.ensures, c.reverse.ensures.items) (order_from c.args.next.now c.in-Some.post.items h.list.0 h.list.1)
+pub returns-in-All : goal.returns-in-All
+returns-in-All c =
+    let h = subst (λ (w : Walked). IsWalked c.args.next.now w) c.in-All.is c.in_ok-post.ensures in
+    rw (c.from_vec.ensures, c.reverse.ensures.items) (order_from c.args.next.now c.in-All.post.items h.0 h.1)
 
-pub loop-p-preserved : goal.loop-p-preserved
-loop-p-preserved c = let h = rw c.in_default-2.is at c.in_ok-circle.ensures in
-    below_more _ _ c.loop-p.invariant h.none
+pub least_circle-requires-clause-some : goal.least_circle-requires-clause-some
+least_circle-requires-clause-some c = (subst (λ (w : Walked). IsWalked c.args.next.now w) c.in-CircleFrom.is c.in_ok-post.ensures).0
 
-pub unreachable-requires : goal.unreachable-requires
-unreachable-requires c = let h = rw c.in_default.is at c.in_ok-post.ensures in
-    c.loop-p.invariant h.none.0 (let i : h.none.0 < length c.args.next.now = circle_inside c.args.next.now h.none.0 h.none.1 in omega arith) h.none.1
+pub least_circle-requires-clause-none : goal.least_circle-requires-clause-none
+least_circle-requires-clause-none c = (subst (λ (w : Walked). IsWalked c.args.next.now w) c.in-CircleFrom.is c.in_ok-post.ensures).1

@@ -1,6 +1,6 @@
 use Rattle.std.proofs.Common.{arith, sym, ◌∙◌}
-use Rattle.std.proofs.lemmas.Bool.{MatchBool-at_false}
-use Rattle.flow_graph.proofs.Walking.{listing_more, listing_same, mark_read}
+use Rattle.std.proofs.lemmas.Bool.{MatchBool-at_false, MatchBool-at_true}
+use Rattle.flow_graph.proofs.Walking.{listing_more, listing_same, mark_read, none_below}
 use Rattle.flow_graph.proofs.order.list_all.Goals as goal
 use Rattle.flow_graph.proofs.order.list_all.Goals.{in-New+in_ok-visit-in-New+else-branch, in_default}
 
@@ -19,3 +19,9 @@ loop-root-preserved c =
             c.loop-root.invariant.sorting.each_marked,
           )) c.index.ensures) ∙ z)))
     ]
+
+pub returns-then-branch : goal.returns-then-branch
+returns-then-branch c = (
+  MatchBool-at_true _ _ c.if-branch.true c.in_ok-visit-in-New.ensures,
+  none_below c.args.next.now c.loop-root.root c.loop-root.cursor.items c.loop-root.marks.items c.loop-root.post.items c.loop-root.invariant,
+)

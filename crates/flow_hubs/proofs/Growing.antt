@@ -5,7 +5,7 @@ use Rattle.std.proofs.lemmas.List.{get_or-set_same, get_or-set_other, length-set
 use Rattle.std.proofs.lemmas.List.Elements.{Contains-append_left, Contains-push, Contains-push_cases}
 use Rattle.std.proofs.lemmas.Bool.{cases_lt, cases_eq}
 use Rattle.flow_graph.specs.Graph.{Graph, HasEdge, next_of}
-use Rattle.flow_edges.specs.Adding.{Adds}
+use Rattle.flow_hubs.specs.Adding.{Adds}
 
 pub adds_none : (g : Graph) (R : ℕ → ℕ → Type 0) → ((i x : ℕ) → R i x → ⊥) → Adds g g R
 adds_none g R none = record {

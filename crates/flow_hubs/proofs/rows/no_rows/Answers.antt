@@ -1,8 +1,8 @@
 use Rattle.std.proofs.Common.{◌≡◌, ◌∙◌, ap, subst, sym, ℕ, ◌+◌, List, [], ◌∷◌, ◌++◌, length}
 use Rattle.std.proofs.lemmas.List.{length_push}
 use Rattle.flow_graph.specs.Graph.{Graph, HasEdge}
-use Rattle.flow_edges.proofs.Growing.{empty_more}
-use Rattle.flow_edges.proofs.lists.no_rows.Goals as goal
+use Rattle.flow_hubs.proofs.Growing.{empty_more}
+use Rattle.flow_hubs.proofs.rows.no_rows.Goals as goal
 
 pub loop-at-preserved : goal.loop-at-preserved
 loop-at-preserved c =

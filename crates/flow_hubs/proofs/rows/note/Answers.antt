@@ -1,9 +1,9 @@
 use Rattle.std.proofs.Common.{◌≡◌, ◌∙◌, sym, ap, subst, [], ◌∷◌, ◌++◌, set}
 use Rattle.std.proofs.lemmas.List.{get_or_default}
 use Rattle.flow_graph.specs.Graph.{next_of}
-use Rattle.flow_edges.specs.Adding.{Adds}
-use Rattle.flow_edges.proofs.Growing.{adds_pushed}
-use Rattle.flow_edges.proofs.lists.note.Goals as goal
+use Rattle.flow_hubs.specs.Adding.{Adds}
+use Rattle.flow_hubs.proofs.Growing.{adds_pushed}
+use Rattle.flow_hubs.proofs.rows.note.Goals as goal
 
 pub returns : goal.returns
 returns c =
