@@ -1,0 +1,10 @@
+mod Decisions
+mod Closure
+mod Sorting
+mod Bits
+mod Leading
+mod Circles
+mod Orders
+mod Conditions
+mod Bounds
+mod Faults
