@@ -1,14 +1,11 @@
 -- Counters that are raised one after the other.
-use Rattle.std.proofs.Common.{◌≡◌, ◌≢◌, ◌∙◌, sym, ap, subst, refl, ℕ, zero, suc, ◌+◌, ◌<◌, ◌≤◌, ◌^◌, ◌==◌, inl, inr, Bool, true, false, cond, not, List, []}
-use Rattle.std.proofs.Common.{◌∷◌, ◌++◌, filter, length, map, take, arith}
-use Rattle.std.specs.Prelude.{Some, slice_index, slice_index_or, slice_set}
-use Rattle.std.proofs.lemmas.Bool.{cases_eq, cases_Bool, eq-eqb, ne_eqb, cases_lt as cases_lt_or}
-use Rattle.std.proofs.lemmas.List.{get_or-set_same, get_or-set_other, length-set, take_more, length-take-le, map-append}
-use Rattle.std.proofs.lemmas.List.Elements.{filter-append}
-use Rattle.design_tree.specs.declared.instrumented.ToggleEntry.{ToggleEntry}
-use Rattle.circuit_run.specs.States.{State}
+use Rattle.std.proofs.Common.{◌≡◌, ◌∙◌, sym, ap, subst, refl, ℕ, zero, suc, ◌+◌, ◌<◌, ◌≤◌, ◌^◌, ◌==◌, inl, inr, Bool, true, false, cond, List, []}
+use Rattle.std.proofs.Common.{◌∷◌, ◌++◌, filter, length, take, arith}
+use Rattle.std.specs.Prelude.{slice_index, slice_index_or, slice_set}
+use Rattle.std.proofs.lemmas.Bool.{cases_eq, eq-eqb, ne_eqb, cases_lt as cases_lt_or}
+use Rattle.std.proofs.lemmas.List.{get_or-set_same, get_or-set_other, length-set, take_more, length-take-le}
 use Rattle.circuit_run.specs.Lists.{how_many}
-use Rattle.design_meaning.specs.Counters.{HasCounted, is_toggled, toggled}
+use Rattle.design_meaning.specs.Counters.{HasCounted}
 use Rattle.design_meaning.proofs.MachineCounts.{how_many_both}
 
 abbrev one_if : Bool → ℕ
@@ -79,50 +76,3 @@ counted_next a b c rs i x lt e h j = subst (λ r. HasCounted a r c) (sym (take_m
 pub room_for_one : (a b rs : List ℕ) (i k : ℕ) → ((k : ℕ) → slice_index a k + length rs < 2 ^ 64) → i < length rs → HasCounted a (take i rs) b
     → slice_index b k + 1 < 2 ^ 64
 room_for_one a b rs i k fit lt h = omega (arith, fit k, lt, counted_least a (take i rs) b k h, length-take-le i rs (omega (arith, lt)))
-
--- ---- toggles
-
-abbrev pub no_entry : ToggleEntry
-no_entry = record { var = 0; word = 0; bit = 0; counter = 0 }
-
-toggled_more : (s t : State) (front : List ToggleEntry) (x : ToggleEntry)
-    → toggled (Some s) t (front ++ x ∷ []) ≡ toggled (Some s) t front ++ cond (is_toggled s t x) (x.counter ∷ []) []
-toggled_more s t front x =
-    ap (map (λ e. e.counter)) (filter-append (is_toggled s t) front (x ∷ []))
-    ∙ map-append (λ e. e.counter) (filter (is_toggled s t) front) (filter (is_toggled s t) (x ∷ []))
-    ∙ ap (λ l. toggled (Some s) t front ++ l) (go (is_toggled s t x))
-  where
-    go : (b : Bool) → map (λ e. e.counter) (cond b (x ∷ []) []) ≡ cond b (x.counter ∷ []) []
-    go true = refl
-    go false = refl
-
-no_more : (xs : List ℕ) → xs ++ [] ≡ xs
-no_more [] = refl
-no_more (x ∷ xs) = ap (λ l. x ∷ l) (no_more xs)
-
-module _ (s t : State) (es : List ToggleEntry) (i : ℕ) (x : ToggleEntry) (lt : i < length es) (e : x ≡ slice_index_or es i x) where
-  next : (b : Bool) → is_toggled s t x ≡ b → toggled (Some s) t (take (i + 1) es) ≡ toggled (Some s) t (take i es) ++ cond b (x.counter ∷ []) []
-  next b eb = ap (toggled (Some s) t) (take_more es i x lt ∙ ap (λ y. take i es ++ y ∷ []) (sym e)) ∙ toggled_more s t (take i es) x
-      ∙ ap (λ c. toggled (Some s) t (take i es) ++ cond c (x.counter ∷ []) []) eb
-
-  pub toggled_here : (a b c : List ℕ) → is_toggled s t x ≡ true → HasCounted a (toggled (Some s) t (take i es)) b → HasCounted b (x.counter ∷ []) c
-      → HasCounted a (toggled (Some s) t (take (i + 1) es)) c
-  toggled_here a b c h ha hb = subst (λ r. HasCounted a r c) (sym (next true h)) (counted_both a b c (toggled (Some s) t (take i es)) (x.counter ∷ []) ha hb)
-
-  pub toggled_not_here : (a b : List ℕ) → is_toggled s t x ≡ false → HasCounted a (toggled (Some s) t (take i es)) b
-      → HasCounted a (toggled (Some s) t (take (i + 1) es)) b
-  toggled_not_here a b h ha = subst (λ r. HasCounted a r b) (sym (next false h ∙ no_more (toggled (Some s) t (take i es)))) ha
-
-length_toggled : (s t : State) (es : List ToggleEntry) → length (toggled (Some s) t es) ≤ length es
-length_toggled s t [] = omega arith
-length_toggled s t (x ∷ es) = go (is_toggled s t x) (length_toggled s t es)
-  where
-    go : (b : Bool) → length (toggled (Some s) t es) ≤ length es
-        → length (map (λ e. e.counter) (cond b (x ∷ filter (is_toggled s t) es) (filter (is_toggled s t) es))) ≤ suc (length es)
-    go true h = omega (arith, h)
-    go false h = omega (arith, h)
-
-pub room_for_toggle : (s t : State) (a b : List ℕ) (es : List ToggleEntry) (i k : ℕ) → ((k : ℕ) → slice_index a k + length es < 2 ^ 64) → i < length es
-    → HasCounted a (toggled (Some s) t (take i es)) b → slice_index b k + 1 < 2 ^ 64
-room_for_toggle s t a b es i k fit lt h =
-    omega (arith, fit k, lt, counted_least a (toggled (Some s) t (take i es)) b k h, length_toggled s t (take i es), length-take-le i es (omega (arith, lt)))

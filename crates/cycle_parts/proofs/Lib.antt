@@ -1,3 +1,5 @@
 pub mod CountLaws
+pub mod EntryOrder
 pub mod LineLaws
+pub mod ToggleLaws
 pub mod WordLaws

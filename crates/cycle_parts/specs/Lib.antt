@@ -1,2 +1,3 @@
 pub mod Raised
 pub mod Lines
+pub mod Toggles

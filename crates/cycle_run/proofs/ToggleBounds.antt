@@ -1,12 +1,8 @@
 -- A design has no more toggle entries than bits.
-use Rattle.std.proofs.Common.{◌≡◌, ◌≢◌, ◌∙◌, sym, ap, subst, refl, ℕ, zero, suc, ◌+◌, ◌*◌, ◌<◌, ◌≤◌, ◌⊎◌, inl, inr, true, false, List, [], ◌∷◌, length, map}
+use Rattle.std.proofs.Common.{◌≡◌, ◌≢◌, ap, subst, refl, ℕ, zero, suc, ◌+◌, ◌*◌, ◌<◌, ◌≤◌, inl, inr, true, false, List, [], ◌∷◌, length, map}
 use Rattle.std.proofs.Common.{take, arith}
 use Rattle.std.specs.Prelude.{All, AllPairs, slice_index_or, nat_lt}
-use Rattle.std.specs.Ordering.{nat_cmp, ordering_then}
-use Rattle.std.specs.declared.cmp.Ordering.{Ordering}
-use Rattle.std.specs.declared.cmp.Ordering.TheVariants.{Less, Equal, Greater}
-use Rattle.std.specs.Cmp.{nat_cmp_is}
-use Rattle.std.proofs.lemmas.Bool.{cases_order}
+use Rattle.std.specs.declared.cmp.Ordering.TheVariants.{Less, Equal}
 use Rattle.std.proofs.Math.Nat.{mul-le-mul_left}
 use Rattle.cov_types.specs.declared.var.Var.{Var}
 use Rattle.design_tree.specs.declared.design.Design.{Design}
@@ -18,30 +14,8 @@ use Rattle.design_meaning.specs.States.{IsBitOf, var_of}
 use Rattle.design_meaning.specs.Counters.{toggle_bit}
 use Rattle.design_meaning.specs.Names.{IsBefore}
 use Rattle.design_meaning.specs.Valid.{AreToggles, toggle_place, state_bits}
-
--- ---- the order of places
-
-less_cmp : (x y : ℕ) → x < y → nat_cmp x y ≡ Less
-less_cmp x y lt = sym (nat_cmp_is x y Less lt)
-
-same_cmp : (x y : ℕ) → x ≡ y → nat_cmp x y ≡ Equal
-same_cmp x y e = sym (nat_cmp_is x y Equal e)
-
-more_cmp : (x y : ℕ) → y < x → nat_cmp x y ≡ Greater
-more_cmp x y lt = sym (nat_cmp_is x y Greater lt)
-
--- by the first number, or by the others where the first ones are equal
-first_or_rest : (x y : ℕ) (rest : Ordering) → ordering_then (nat_cmp x y) rest ≡ Less → (x < y) ⊎ ((x ≡ y) × (rest ≡ Less))
-first_or_rest x y rest h = elim (cases_order x y) [
-  | inl e ↦ inr (e, sym (ap (λ o. ordering_then o rest) (same_cmp x y e)) ∙ h)
-  | inr o ↦ elim o [
-    | inl less ↦ inl less
-    | inr more ↦ absurd (never (sym (ap (λ o. ordering_then o rest) (more_cmp x y more)) ∙ h))
-  ]
-]
-  where
-    never : Greater ≡ Less → ⊥
-    never e = cc e
+use Rattle.cycle_parts.specs.Toggles.{entry_at, no_entry}
+use Rattle.cycle_parts.proofs.EntryOrder.{first_or_rest}
 
 -- ---- the number of a bit among all
 
@@ -114,17 +88,14 @@ module _ (d : Design) where
       in_bits : (a b : ToggleEntry) → a.var ≡ b.var → a.word ≡ b.word → a.bit < b.bit → number d.vars a < number d.vars b
       in_bits a b e f less = omega (arith, less, ap (before d.vars) e, ap (λ v. (var_of d v).width * b.word) e, ap (λ w. (var_of d a.var).width * w) f)
 
-abbrev no_toggle : ToggleEntry
-no_toggle = record { var = 0; word = 0; bit = 0; counter = 0 }
-
-at_least : (x : Instrumented) → AreToggles x → (k : ℕ) → k < length x.toggles → k ≤ number x.design.vars (slice_index_or x.toggles k no_toggle)
+at_least : (x : Instrumented) → AreToggles x → (k : ℕ) → k < length x.toggles → k ≤ number x.design.vars (entry_at x.toggles k)
 at_least x h zero lt = omega arith
 at_least x h (suc k) lt =
     omega (
       arith,
       at_least x h k (omega (arith, lt)),
-      ascends x.design (slice_index_or x.toggles k no_toggle) (slice_index_or x.toggles (suc k) no_toggle) (h.bits k no_toggle (omega (arith, lt))) (h.bits (suc k) no_toggle lt)
-          (h.ascend k (suc k) no_toggle (omega arith) lt),
+      ascends x.design (entry_at x.toggles k) (entry_at x.toggles (suc k)) (h.bits k no_entry (omega (arith, lt))) (h.bits (suc k) no_entry lt)
+          (h.ascend k (suc k) no_entry (omega arith) lt),
     )
 
 pub toggles_few : (x : Instrumented) → AreToggles x → length x.toggles ≤ state_bits x.design
@@ -134,5 +105,5 @@ toggles_few x h = by (length x.toggles) refl
     by zero e = omega arith
     by (suc n) e =
         let lt : n < length x.toggles = omega (arith, e) in
-        let t : ToggleEntry = slice_index_or x.toggles n no_toggle in
-        omega (arith, at_least x h n lt, in_variable x.design t (h.bits n no_toggle lt), within x.design.vars (suc t.var))
+        let t : ToggleEntry = entry_at x.toggles n in
+        omega (arith, at_least x h n lt, in_variable x.design t (h.bits n no_entry lt), within x.design.vars (suc t.var))
