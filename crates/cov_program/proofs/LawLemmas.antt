@@ -12,38 +12,52 @@ use Rattle.command_check.specs.Agree.{Agree, same}
 use Rattle.command_check.specs.Laws.{OneCheck, IsDoneUnlessWrong as CheckIsDone}
 use Rattle.command_cover.specs.Merge.{IsMergeAnswer, merge_to}
 use Rattle.cover_answer.specs.Laws.{OneCover, IsDoneUnlessWrong as CoverIsDone, WritesInAnyOrder, WritingMerges as CoverMerges, writing}
-use Rattle.cov_program.specs.Laws.{IsRight}
+use Rattle.sim_answer.specs.SimAnswer.{IsSimAnswer}
+use Rattle.sim_answer.specs.Simulation.{Simulation}
+use Rattle.cov_program.specs.Laws.{IsRight, RunsWell}
 use Rattle.cov_program.specs.Promises.{promise_of, task_promise}
-use Rattle.cov_program.specs.Words.{Task, checking, covering, task_of}
+use Rattle.cov_program.specs.Words.{Task, checking, covering, simulating, task_of}
 
 agree : (a b : Answer) → a ≡ b → Agree a b
 agree a b is = subst (λ (x : Answer). Agree a x) is same
 
--- a task has one answer
-pub tasks_agree : OneCheck → OneCover → (task : Option Task) (held : Names) (a b : Answer) → (task_promise task).Answers held a
-    → (task_promise task).Answers held b → Agree a b
-tasks_agree check cover None held a b one two = agree a b (one ∙ sym two)
-tasks_agree check cover (Some (checking names)) held a b one two = check held names a b one two
-tasks_agree check cover (Some (covering asked)) held a b one two = agree a b (cover held asked a b one two)
+-- a `sim` has one answer at most
+abbrev pub SimsAgree : Type 0
+SimsAgree = (held : Names) (asked : Simulation) (a b : Answer) → IsSimAnswer held asked a → IsSimAnswer held asked b → a ≡ b
 
-right_done : CheckIsDone → CoverIsDone → (task : Option Task) (held : Names) → IsRight task held → (answer : Answer)
-    → (task_promise task).Answers held answer → answer.status ≡ Done
-right_done check cover None held right answer is = absurd right
-right_done check cover (Some (checking names)) held right answer is =
+-- a task has one answer
+pub tasks_agree : OneCheck → OneCover → SimsAgree → (task : Option Task) (held : Names) (a b : Answer)
+    → (task_promise task).Answers held a → (task_promise task).Answers held b → Agree a b
+tasks_agree check cover sim None held a b one two = agree a b (one ∙ sym two)
+tasks_agree check cover sim (Some (checking names)) held a b one two = check held names a b one two
+tasks_agree check cover sim (Some (simulating asked)) held a b one two =
+    agree a b (sim held asked a b one two)
+tasks_agree check cover sim (Some (covering asked)) held a b one two = agree a b (cover held asked a b one two)
+
+-- a `sim` that runs well is done
+abbrev pub SimIsDone : Type 0
+SimIsDone = (held : Names) (asked : Simulation) → RunsWell held asked → (answer : Answer) → IsSimAnswer held asked answer → answer.status ≡ Done
+
+right_done : CheckIsDone → CoverIsDone → SimIsDone → (task : Option Task) (held : Names) → IsRight task held
+    → (answer : Answer) → (task_promise task).Answers held answer → answer.status ≡ Done
+right_done check cover sim None held right answer is = absurd right
+right_done check cover sim (Some (simulating asked)) held right answer is = sim held asked right answer is
+right_done check cover sim (Some (checking names)) held right answer is =
     ap (λ (a : Answer). a.status) (check held names right.1.0 right.1.1 answer right.0 right.1.2 right.1.3 is)
-right_done check cover (Some (covering asked)) held right answer is =
+right_done check cover sim (Some (covering asked)) held right answer is =
     let made = cover held asked answer right.0 right.1.0 right.1.1 is in ap (λ (a : Answer). a.status) made.1
 
-each_done : CheckIsDone → CoverIsDone → (task : Option Task) (told : Option Names) → IsSomeAnd told (IsRight task) → AreDone (task_promise task) told
-each_done check cover task None right = right
-each_done check cover task (Some held) right = right_done check cover task held right
+each_done : CheckIsDone → CoverIsDone → SimIsDone → (task : Option Task) (told : Option Names)
+    → IsSomeAnd told (IsRight task) → AreDone (task_promise task) told
+each_done check cover sim task None right = right
+each_done check cover sim task (Some held) right = right_done check cover sim task held right
 
 -- words with which nothing is wrong
-pub words_done : CheckIsDone → CoverIsDone → (words : List (List ℕ)) (said : List ℕ) (old new : World) (ended : Status)
+pub words_done : CheckIsDone → CoverIsDone → SimIsDone → (words : List (List ℕ)) (said : List ℕ) (old new : World) (ended : Status)
     → Leaves (promise_of words) said old new ended
     → IsCalm old new → IsSomeAnd old.held (IsRight (task_of words)) → (ended ≡ Done) ⊎ (ended ≡ NoMemory)
-words_done check cover words said old new ended leaves calm right =
-    done_unless_wanting (promise_of words) said old new ended leaves calm (each_done check cover (task_of words) old.held right)
+words_done check cover sim words said old new ended leaves calm right =
+    done_unless_wanting (promise_of words) said old new ended leaves calm (each_done check cover sim (task_of words) old.held right)
 
 -- what answers a task answers words that ask for it
 asked_for : (words : List (List ℕ)) (task : Task) (held : Names) (a : Answer) → task_of words ≡ Some task

@@ -1,2 +1,4 @@
 pub mod LawLemmas
 pub mod ProgramLemmas
+pub mod SimLemmas
+pub mod TaskLemmas

@@ -1,5 +1,5 @@
 -- Laws of the program's answers.
-use Rattle.std.specs.Prelude.{◌≡◌, ◌↔◌, ◌⊎◌, ◌≤◌, ℕ, List, length, Option, None, Some, IsPermutation, IsSomeAnd}
+use Rattle.std.specs.Prelude.{◌≡◌, ◌↔◌, ◌⊎◌, ◌≤◌, ℕ, List, length, Option, None, Some, Ok, IsPermutation, IsSomeAnd}
 use Rattle.cov_types.specs.Limits.{most}
 use Rattle.cov_types.specs.declared.limit.LimitName.TheVariants.{Files}
 use Rattle.cov_port.specs.Files.{Names}
@@ -17,18 +17,38 @@ use Rattle.cover_answer.specs.Gathering.{IsGathered}
 use Rattle.cover_answer.specs.Laws.{writing}
 use Rattle.cover_answer.specs.Reports.{report_refusal}
 use Rattle.cov_program.specs.Promises.{promise_of}
-use Rattle.cov_program.specs.Words.{Task, checking, covering, task_of}
+use Rattle.design_tree.specs.declared.instrumented.Instrumented.{Instrumented}
+use Rattle.circuit_run.specs.Ends.{stopped}
+use Rattle.design_meaning.specs.Runs.{IsRun}
+use Rattle.stim_lines.specs.Header.{inputs_of}
+use Rattle.stim_lines.specs.Stimulus.{stimulus_of}
+use Rattle.stim_lines.specs.declared.row.StimText.{StimText}
+use Rattle.sim_answer.specs.SimAnswer.{HoldsDesign, values_of}
+use Rattle.sim_answer.specs.Simulation.{Simulation}
+use Rattle.cov_program.specs.Words.{Task, checking, covering, simulating, task_of}
 
 -- words have one answer at most, but for the place where tokens are outside the grammar
 abbrev pub AnswersAgree : Type 0
 AnswersAgree = (words : List (List ℕ)) (held : Names) (a b : Answer) → (promise_of words).Answers held a → (promise_of words).Answers held b → Agree a b
 
+-- The design of a `sim` flows, no line of its stimulus is refused, and no run of the one on the other executes `$stop`.
+pub record RunsWell (held : Names) (asked : Simulation) : Type 0 where
+  pub design : Instrumented
+  pub text : List ℕ
+  pub stim : StimText
+  pub holds_design : HoldsDesign held asked.design design
+  pub holds : held asked.stimulus ≡ Some text
+  pub read : stimulus_of (inputs_of design.design) text ≡ Ok stim
+  pub whole : stim.fault ≡ None
+  pub unstopped : (out : List ℕ) (counts : List ℕ) → IsRun design (values_of stim.rows) out stopped counts → ⊥
+
 -- Nothing is wrong with what a task reads: there are few enough files; of a check, all are held and are designs, and of
--- a `cover`, none of what they hold is a reason to stop, and no report is refused.
+-- a `cover`, none of what they hold is a reason to stop, and no report is refused. A `sim` runs well.
 abbrev pub IsRight : Option Task → Names → Type 0
 IsRight None held = ⊥
 IsRight (Some (checking names)) held = (length names ≤ most Files)
     × ((texts : List (List ℕ)) × (files : List SourceFile) × AreRead held names texts × AreDesigns 0 texts files)
+IsRight (Some (simulating asked)) held = RunsWell held asked
 IsRight (Some (covering asked)) held = (length asked.files ≤ most Files)
     × (IsGathered asked.rank (arrivals_for held asked) × (report_refusal held asked (counts_in (arrivals_for held asked)) ≡ None))
 
