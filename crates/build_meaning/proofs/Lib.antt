@@ -1,0 +1,2 @@
+pub mod FilesRuns
+pub mod BuiltRuns

@@ -1,0 +1,2 @@
+pub mod Renoted
+pub mod OnlyRuns

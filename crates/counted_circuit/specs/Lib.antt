@@ -1,0 +1,15 @@
+pub mod Inserted
+pub mod Tells
+pub mod TellsLaw
+pub mod Circuits
+pub mod CountedDesign
+pub mod Counts
+pub mod Instrument
+pub mod Plain
+pub mod Erased
+pub mod Sorts
+pub mod Bound
+pub mod Balance
+pub mod Derived
+pub mod DerivedLists
+pub mod CountedLaws

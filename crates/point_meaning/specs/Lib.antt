@@ -1,0 +1,14 @@
+pub mod Arms
+pub mod Pragmas
+pub mod Off
+pub mod Source
+pub mod Bits
+pub mod Candidates
+pub mod Hier
+pub mod Points
+pub mod Table
+pub mod Occurrences
+pub mod RunData
+pub mod Limits
+pub mod Flat
+pub mod FromWalk
