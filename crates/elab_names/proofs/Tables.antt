@@ -1,6 +1,6 @@
 -- Tables of declared names and of constants.
 use Rattle.std.proofs.Common.{◌≡◌, ◌∙◌, sym, ap, refl, subst, ℕ, ◌+◌, ◌<◌, Bool, true, false, ◌||◌, cond, List, [], ◌∷◌, ◌++◌, length, take, get_or, map, Option, Some, None, is_some}
-use Rattle.std.proofs.lemmas.List.{take_more}
+use Rattle.std.proofs.lemmas.List.{take_more, length-map}
 use Rattle.std.proofs.lemmas.List.Folds.{find-append}
 use Rattle.std.specs.List.{find, list_any}
 use Rattle.std.specs.Option.{option_or}
@@ -47,9 +47,11 @@ find-seen q (d ∷ ds) =
     ≡ option_of (λ (d : Declared). kind_seen d.kind) (cond b (Some d) (find (λ (d : Declared). bytes_eq q d.name) ds))) [ true ↦ refl | false ↦ find-seen q ds ]
 
 -- a scope without constants yet
-pub framed : (f : Frame) (names : List DeclaredName) (genvar : Option PassGenvar) (s : ScopeNames) → IsTableOf names s.declared → s.genvar ≡ genvar
+pub framed : (f : Frame) (names : List DeclaredName) (genvar : Option PassGenvar) (s : ScopeNames) → s.count ≡ length names
+    → IsTableOf names s.declared → s.genvar ≡ genvar
     → ((q : List ℕ) → value_of s.known q ≡ None) → map seen f.declared ≡ names → IsGenvar f.genvar genvar → f.known ≡ [] → IsFrame f s
-framed f names genvar s table same empty named is none = record {
+framed f names genvar s counted table same empty named is none = record {
+  count = counted ∙ sym (ap length named) ∙ length-map f.declared seen;
   declared = λ q. table q ∙ ap (λ (ds : List DeclaredName). kind_in (find (λ (e : DeclaredName). bytes_eq q e.name) ds)) (sym named) ∙ find-seen q f.declared;
   genvar = subst (IsGenvar f.genvar) (sym same) is;
   known = λ q. subst (λ (cs : List Constant). IsValueIn (find (λ (c : Constant). bytes_eq q c.name) cs) (value_of s.known q)) (sym none)
@@ -65,10 +67,12 @@ value-or None None true c v h k = k
 value-or None None false c v h k = tt
 
 -- one constant more
-pub known-more : (f : Frame) (old new : ScopeNames) (c : Constant) (name : List ℕ) (v : ConstantValue) → new.declared ≡ old.declared → new.genvar ≡ old.genvar
+pub known-more : (f : Frame) (old new : ScopeNames) (c : Constant) (name : List ℕ) (v : ConstantValue) → new.count ≡ old.count → new.declared ≡ old.declared
+    → new.genvar ≡ old.genvar
     → ((q : List ℕ) → value_of new.known q ≡ option_or (value_of old.known q) (only name v q)) → IsFrame f old → c.name ≡ name → IsValue c v
     → IsFrame (record f { known = f.known ++ c ∷ [] }) new
-known-more f old new c name v d g put is named value = record {
+known-more f old new c name v n d g put is named value = record {
+  count = n ∙ is.count;
   declared = λ q. ap (λ (t : NameTable NameKind). value_of t q) d ∙ is.declared q;
   genvar = subst (IsGenvar f.genvar) (sym g) is.genvar;
   known = λ q.

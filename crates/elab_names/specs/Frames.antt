@@ -1,5 +1,5 @@
 -- When the code's scopes are those of a place (IEEE 1364-2005, 12.7).
-use Rattle.std.specs.Prelude.{◌≡◌, ℕ, List, [], ◌∷◌, ◌++◌, Option, Some, None}
+use Rattle.std.specs.Prelude.{◌≡◌, ℕ, List, [], ◌∷◌, ◌++◌, length, Option, Some, None}
 use Rattle.std.specs.List.{find}
 use Rattle.std.specs.Str.{bytes_eq}
 use Rattle.scope_meaning.specs.Constants.{Constant, option_of}
@@ -33,6 +33,7 @@ IsGenvar None (Some g) = ⊥
 
 -- the names are those of a scope as it is seen from a place
 pub record IsFrame (f : Frame) (s : ScopeNames) : Type 0 where
+  pub count : s.count ≡ length f.declared
   pub declared : (q : List ℕ) → value_of s.declared q ≡ option_of (λ (d : Declared). kind_seen d.kind) (find (λ (d : Declared). bytes_eq q d.name) f.declared)
   pub genvar : IsGenvar f.genvar s.genvar
   pub known : (q : List ℕ) → IsValueIn (find (λ (c : Constant). bytes_eq q c.name) f.known) (value_of s.known q)

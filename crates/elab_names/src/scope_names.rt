@@ -1,4 +1,4 @@
-ghost use Rattle.std.specs.Prelude.{◌≡◌, ℕ, List, [], ◌∷◌, ◌++◌, map, IfOk, OnOk};
+ghost use Rattle.std.specs.Prelude.{◌≡◌, ℕ, List, [], ◌∷◌, ◌++◌, length, map, IfOk, OnOk};
 ghost use Rattle.scope_meaning.specs.Constants.{Constant};
 ghost use Rattle.scope_meaning.specs.Scope.{Frame};
 ghost use Rattle.scope_meaning.specs.Declared.{is_in};
@@ -34,6 +34,7 @@ pub struct PassGenvar {
 #[derive(Drop)]
 pub struct ScopeNames {
     declared: NameTable<NameKind>,
+    count: usize,
     genvar: Option<PassGenvar>,
     known: NameTable<ConstantValue>,
 }
@@ -76,9 +77,11 @@ impl ScopeNames {
     ) -> Result<ScopeNames, NoMemory>
         ensures { IfOk result (λ names. (f : Frame) → map seen f.declared ≡ declared.now → IsGenvar f.genvar genvar → f.known ≡ [] → IsFrame f names) }
     {
+        let count = declared.len();
         let declared = table_of(alloc, declared)?;
         Ok(ScopeNames {
             declared,
+            count,
             genvar,
             known: NameTable::new(alloc),
         })
@@ -103,6 +106,13 @@ impl ScopeNames {
         ensures { (f : Frame) → IsFrame f self.now → result ≡ is_in name.now (map (λ d. d.name) f.declared) }
     {
         self.declared.contains(name)
+    }
+
+    /// How many names the scope declares, those that stand twice among them.
+    pub fn count(&self) -> usize
+        ensures { (f : Frame) → IsFrame f self.now → result ≡ length f.declared }
+    {
+        self.count
     }
 
     /// What a name means in the scope, where that is what it means outside.

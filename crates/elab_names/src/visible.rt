@@ -26,7 +26,8 @@ fn is_genvar(meant: Option<NameMeaning>) -> bool
 impl<'a> VisibleNames<'a> {
     /// The names of these scopes, each inside the one before it.
     pub fn new(scopes: &'a [ScopeNames]) -> VisibleNames<'a>
-        ensures { (fs : List Frame) → AreFrames fs scopes.now → environment_by result.scopes.now ≡ constants (constants_at fs) }
+        ensures environment { (fs : List Frame) → AreFrames fs scopes.now → environment_by result.scopes.now ≡ constants (constants_at fs) }
+        ensures frames { (fs : List Frame) → AreFrames fs scopes.now → AreFrames fs result.scopes.now }
     {
         VisibleNames { scopes }
     }

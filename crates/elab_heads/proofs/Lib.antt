@@ -1,0 +1,4 @@
+pub mod Genvars
+pub mod Passes
+pub mod Heads
+pub mod Choices
