@@ -1,0 +1,4 @@
+pub mod Thens
+pub mod Steps
+pub mod Modules
+pub mod Standings

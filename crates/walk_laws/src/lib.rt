@@ -1,0 +1,2 @@
+//! What may follow on a walk through a design, step by step.
+#![tactic(auto)]
