@@ -65,7 +65,8 @@ more_split base [] words slot new h many =
 more_split base (head ∷ slots) words slot new h many =
     let e : drop head.count (words ++ new) ≡ drop head.count words ++ new = drop-append-le head.count words new h.0.enough in
     let f : take head.count (words ++ new) ≡ take head.count words = take-append-le head.count words new h.0.enough in
-    rw (e, f) (ap (λ t. record { width = head.width; words = take head.count words } ∷ t) (more_split (base + head.count) slots (drop head.count words) slot new h.1 many))
+    rw (e, f) (ap (λ t. record { width = head.width; words = take head.count words } ∷ t)
+    (more_split (base + head.count) slots (drop head.count words) slot new h.1 many))
 
 -- ---- starts
 
@@ -94,7 +95,12 @@ start_is_state d vars = record { as_many = length-map d.vars start_of; each = ea
     each v lt =
         let x : Var = var_of d v in
         let e : held (start_values d) v ≡ start_of x = get_or_map d.vars v lt in
-        subst (AreWordsOf x) (sym e) (record { as_wide = refl; as_many = length-replicate {A = ℕ} x.words x.start; fit = all_same (2 ^ x.width) x.start x.words (start_bounds x (vars v no_var lt)).2 })
+        subst (AreWordsOf x) (sym e) (record {
+          as_wide = refl;
+          as_many = length-replicate {A = ℕ} x.words x.start;
+          fit = all_same (2 ^ x.width) x.start x.words
+              (start_bounds x (vars v no_var lt)).2;
+        })
       where
         get_or_map : (vars : List Var) (v : ℕ) → v < length vars → slice_index_or (map start_of vars) v no_words ≡ start_of (slice_index_or vars v no_var)
         get_or_map [] v lt = absurd (omega (arith, lt))

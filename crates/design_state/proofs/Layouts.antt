@@ -43,7 +43,8 @@ first base slot slots words h = record {
         some = h.0.some;
         most = h.0.most;
         enough = omega (arith, h.0.enough, length-set words w x);
-        fit = subst (All (λ n. n < 2 ^ slot.width)) (sym (take-set-lt slot.count words w x lt)) (all_set (2 ^ slot.width) w x (take slot.count words) small h.0.fit);
+        fit = subst (All (λ n. n < 2 ^ slot.width)) (sym (take-set-lt slot.count words w x lt))
+            (all_set (2 ^ slot.width) w x (take slot.count words) small h.0.fit);
       },
       subst (AreLaid (base + slot.count) slots) (sym (drop-set-lt slot.count words w x lt)) h.1,
     )
@@ -65,7 +66,13 @@ next base head slots words v at slot h k = record {
 
     sets : (w x : ℕ) → w < slot.count → split (head ∷ slots) (slice_set words ((head.count + at) + w) x)
         ≡ slice_set (split (head ∷ slots) words) (suc v) (record { width = slot.width; words = slice_set (take slot.count (drop (head.count + at) words)) w x })
-    sets w x lt = rw (place w, take-set-le head.count words (head.count + (at + w)) x (omega arith), drop-set-add head.count words (at + w) x, drop-add head.count at words)
+    sets w x lt = rw (
+      place w,
+      take-set-le head.count words (head.count + (at + w)) x (omega arith),
+      drop-set-add head.count words (at + w) x,
+      drop-add
+          head.count at words,
+    )
         (ap (λ t. record { width = head.width; words = take head.count words } ∷ t) (k.sets w x lt))
 
     stays : (w x : ℕ) → w < slot.count → x < 2 ^ slot.width → AreLaid base (head ∷ slots) (slice_set words ((head.count + at) + w) x)

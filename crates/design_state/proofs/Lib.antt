@@ -4,3 +4,4 @@ pub mod LaidStarts
 pub mod Typings
 pub mod Repeats
 pub mod Turns
+pub mod SameSlots

@@ -25,7 +25,8 @@ with_test s f g h k = record { design = h.design; of = h.of; holds = k h.design 
 module _ (s : State) where
   pub of_index : (at : Index) → IsIndexIn s at → IsTypedIn s at.value
   of_index at h = with_test s (λ d. is_index d at) (λ d. is_typed d at.value) h
-      (λ d ok. right_true (nat_lt at.low (2 ^ 32)) (is_typed d at.value) (sym (typed.para-index Bool Bool (node_typed d) index_typed at.low at.signed at.value) ∙ ok))
+      (λ d ok. right_true (nat_lt at.low (2 ^ 32)) (is_typed d at.value)
+      (sym (typed.para-index Bool Bool (node_typed d) index_typed at.low at.signed at.value) ∙ ok))
 
   pub number_width : (w n : ℕ) → IsTypedIn s (e.Number w n) → (1 ≤ w) × (w ≤ 128) × (n < 2 ^ w)
   number_width w n h =
@@ -59,7 +60,8 @@ module _ (s : State) where
 
   pub part_of : (w : ℕ) (of : Typed) (at : Index) → IsTypedIn s (e.Part w of at) → IsTypedIn s of
   part_of w of at h = with_test s (λ d. is_typed d (e.Part w of at)) (λ d. is_typed d of) h
-      (λ d ok. right_true (is_width w) (is_typed d of) (left_true (is_width w && is_typed d of) (is_index d at) (sym (typed.para-Part Bool Bool (node_typed d) index_typed w of at) ∙ ok)))
+      (λ d ok. right_true (is_width w) (is_typed d of)
+      (left_true (is_width w && is_typed d of) (is_index d at) (sym (typed.para-Part Bool Bool (node_typed d) index_typed w of at) ∙ ok)))
 
   pub part_index : (w : ℕ) (of : Typed) (at : Index) → IsTypedIn s (e.Part w of at) → IsIndexIn s at
   part_index w of at h = with_test s (λ d. is_typed d (e.Part w of at)) (λ d. is_index d at) h
@@ -80,21 +82,24 @@ module _ (s : State) where
 
   pub zero_of : (w : ℕ) (of : Typed) → IsTypedIn s (e.ZeroExtend w of) → IsTypedIn s of
   zero_of w of h = with_test s (λ d. is_typed d (e.ZeroExtend w of)) (λ d. is_typed d of) h
-      (λ d ok. right_true (is_width w) (is_typed d of) (left_true (is_width w && is_typed d of) (nat_le (width_of d of) w) (sym (typed.para-ZeroExtend Bool Bool (node_typed d) index_typed w of) ∙ ok)))
+      (λ d ok. right_true (is_width w) (is_typed d of)
+      (left_true (is_width w && is_typed d of) (nat_le (width_of d of) w) (sym (typed.para-ZeroExtend Bool Bool (node_typed d) index_typed w of) ∙ ok)))
 
   pub zero_width : (w : ℕ) (of : Typed) (v n : ℕ) → IsTypedIn s (e.ZeroExtend w of) → value_in s of ≡ of_width v n → (v ≤ w) × (w ≤ 128)
   zero_width w of v n h = extended h.design w of v n h.of (sym (typed.para-ZeroExtend Bool Bool (node_typed h.design) index_typed w of) ∙ h.holds)
 
   pub sign_of : (w : ℕ) (of : Typed) → IsTypedIn s (e.SignExtend w of) → IsTypedIn s of
   sign_of w of h = with_test s (λ d. is_typed d (e.SignExtend w of)) (λ d. is_typed d of) h
-      (λ d ok. right_true (is_width w) (is_typed d of) (left_true (is_width w && is_typed d of) (nat_le (width_of d of) w) (sym (typed.para-SignExtend Bool Bool (node_typed d) index_typed w of) ∙ ok)))
+      (λ d ok. right_true (is_width w) (is_typed d of)
+      (left_true (is_width w && is_typed d of) (nat_le (width_of d of) w) (sym (typed.para-SignExtend Bool Bool (node_typed d) index_typed w of) ∙ ok)))
 
   pub sign_width : (w : ℕ) (of : Typed) (v n : ℕ) → IsTypedIn s (e.SignExtend w of) → value_in s of ≡ of_width v n → (v ≤ w) × (w ≤ 128)
   sign_width w of v n h = extended h.design w of v n h.of (sym (typed.para-SignExtend Bool Bool (node_typed h.design) index_typed w of) ∙ h.holds)
 
   pub truncate_of : (w : ℕ) (of : Typed) → IsTypedIn s (e.Truncate w of) → IsTypedIn s of
   truncate_of w of h = with_test s (λ d. is_typed d (e.Truncate w of)) (λ d. is_typed d of) h
-      (λ d ok. right_true (is_width w) (is_typed d of) (left_true (is_width w && is_typed d of) (nat_le w (width_of d of)) (sym (typed.para-Truncate Bool Bool (node_typed d) index_typed w of) ∙ ok)))
+      (λ d ok. right_true (is_width w) (is_typed d of)
+      (left_true (is_width w && is_typed d of) (nat_le w (width_of d of)) (sym (typed.para-Truncate Bool Bool (node_typed d) index_typed w of) ∙ ok)))
 
   pub truncate_width : (w : ℕ) (of : Typed) (v n : ℕ) → IsTypedIn s (e.Truncate w of) → value_in s of ≡ of_width v n → (1 ≤ w) × (w ≤ v)
   truncate_width w of v n h is =
@@ -120,11 +125,13 @@ module _ (s : State) where
 
   pub binary_left : (op : TypedBinary) (left right : Typed) → IsTypedIn s (e.Binary op left right) → IsTypedIn s left
   binary_left op left right h = with_test s (λ d. is_typed d (e.Binary op left right)) (λ d. is_typed d left) h
-      (λ d ok. left_true (is_typed d left) (is_typed d right) (left_true (is_typed d left && is_typed d right) (OneWidth d op left right) (binary_ok d op left right ok)))
+      (λ d ok. left_true (is_typed d left) (is_typed d right)
+      (left_true (is_typed d left && is_typed d right) (OneWidth d op left right) (binary_ok d op left right ok)))
 
   pub binary_right : (op : TypedBinary) (left right : Typed) → IsTypedIn s (e.Binary op left right) → IsTypedIn s right
   binary_right op left right h = with_test s (λ d. is_typed d (e.Binary op left right)) (λ d. is_typed d right) h
-      (λ d ok. right_true (is_typed d left) (is_typed d right) (left_true (is_typed d left && is_typed d right) (OneWidth d op left right) (binary_ok d op left right ok)))
+      (λ d ok. right_true (is_typed d left) (is_typed d right)
+      (left_true (is_typed d left && is_typed d right) (OneWidth d op left right) (binary_ok d op left right ok)))
 
   shifts_or : (c : Bool) (v w : ℕ) → (c || v == w) ≡ true → IsTrue c ⊎ (v ≡ w)
   shifts_or true v w h = inl refl
@@ -147,11 +154,13 @@ module _ (s : State) where
 
   pub join_high : (high low : Typed) → IsTypedIn s (e.Join high low) → IsTypedIn s high
   join_high high low h = with_test s (λ d. is_typed d (e.Join high low)) (λ d. is_typed d high) h
-      (λ d ok. left_true (is_typed d high) (is_typed d low) (left_true (is_typed d high && is_typed d low) (is_width (width_of d high + width_of d low)) (join_ok d high low ok)))
+      (λ d ok. left_true (is_typed d high) (is_typed d low)
+      (left_true (is_typed d high && is_typed d low) (is_width (width_of d high + width_of d low)) (join_ok d high low ok)))
 
   pub join_low : (high low : Typed) → IsTypedIn s (e.Join high low) → IsTypedIn s low
   join_low high low h = with_test s (λ d. is_typed d (e.Join high low)) (λ d. is_typed d low) h
-      (λ d ok. right_true (is_typed d high) (is_typed d low) (left_true (is_typed d high && is_typed d low) (is_width (width_of d high + width_of d low)) (join_ok d high low ok)))
+      (λ d ok. right_true (is_typed d high) (is_typed d low)
+      (left_true (is_typed d high && is_typed d low) (is_width (width_of d high + width_of d low)) (join_ok d high low ok)))
 
   pub join_width : (high low : Typed) (v n w m : ℕ) → IsTypedIn s (e.Join high low)
       → value_in s high ≡ of_width v n → value_in s low ≡ of_width w m → v + w ≤ 128

@@ -1,3 +1,4 @@
 pub mod InDesign
 pub mod Layout
 pub mod Positions
+pub mod Shapes

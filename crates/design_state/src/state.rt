@@ -5,6 +5,7 @@ ghost use Rattle.design_meaning.specs.Starts.{start_values};
 ghost use Rattle.design_meaning.specs.ValidVariables.{IsVariable};
 ghost use Rattle.design_state.specs.Layout.{split, AreLaid, Stands, words_at, start_of};
 ghost use Rattle.design_state.specs.Positions.{offset, part_of};
+ghost use Rattle.design_state.specs.Shapes.{HaveOneShape};
 
 use crate::position::{Position, replaced};
 use crate::update::Update;
@@ -121,6 +122,16 @@ impl State {
             add_variable(&mut slots, &mut words, var)?;
         }
         Ok(State { slots, words })
+    }
+
+    /// Makes the state what another of the same variables is, all words at once.
+    pub fn copy_from(&mut self, from: &State)
+        requires { HaveOneShape self.old from.now }
+        ensures { self.new ≡ from.now }
+    {
+        self.words
+            .as_mut_slice()
+            .copy_from_slice(from.words.as_slice());
     }
 
     /// One word of a variable.

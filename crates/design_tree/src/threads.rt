@@ -1,5 +1,5 @@
 use crate::design::{Design, Input, Process};
-use crate::instrumented::{PointRow, ToggleEntry};
+use crate::instrumented::{Instrumented, PointRow, ToggleEntry};
 use crate::operator::{TypedBinary, TypedUnary};
 use crate::step::{Piece, Step, StepArm, StepItem, Target};
 use crate::typed::{Index, Typed};
@@ -25,4 +25,9 @@ pub(crate) fn designs_cross_threads() {
     crosses_threads::<Design>();
     crosses_threads::<ToggleEntry>();
     crosses_threads::<PointRow>();
+}
+
+/// Instrumented designs cross threads.
+pub(crate) fn instrumented_cross_threads() {
+    crosses_threads::<Instrumented>();
 }

@@ -43,13 +43,15 @@ value-selected-requires-clause-most t c = (typing.part_width c.args.state.now c.
 pub value-value-requires : goal.value-value-requires
 value-value-requires t c = (
   first_of (search (rules, the_lemmas), grind (arith, the_lemmas)),
-  subst (IsTypedIn c.args.state.now) (sym c.get.ensures) (typing.part_of c.args.state.now c.in-Part.width c.in-Part.of c.in-Part.at (rw c.in-Part.is at c.requires)),
+  subst (IsTypedIn c.args.state.now) (sym c.get.ensures)
+      (typing.part_of c.args.state.now c.in-Part.width c.in-Part.of c.in-Part.at (rw c.in-Part.is at c.requires)),
 )
 
 pub value-value-requires-in-ZeroExtend : goal.value-value-requires-in-ZeroExtend
 value-value-requires-in-ZeroExtend t c = (
   first_of (search (rules, the_lemmas), grind (arith, the_lemmas)),
-  subst (IsTypedIn c.args.state.now) (sym c.get-in-ZeroExtend.ensures) (typing.zero_of c.args.state.now c.in-ZeroExtend.width c.in-ZeroExtend.of (rw c.in-ZeroExtend.is at c.requires)),
+  subst (IsTypedIn c.args.state.now) (sym c.get-in-ZeroExtend.ensures)
+      (typing.zero_of c.args.state.now c.in-ZeroExtend.width c.in-ZeroExtend.of (rw c.in-ZeroExtend.is at c.requires)),
 )
 
 pub value-extend-requires-clause-at_least : goal.value-extend-requires-clause-at_least
@@ -67,7 +69,8 @@ value-extend-requires-clause-at_most t c =
 pub value-value-requires-in-SignExtend : goal.value-value-requires-in-SignExtend
 value-value-requires-in-SignExtend t c = (
   first_of (search (rules, the_lemmas), grind (arith, the_lemmas)),
-  subst (IsTypedIn c.args.state.now) (sym c.get-in-SignExtend.ensures) (typing.sign_of c.args.state.now c.in-SignExtend.width c.in-SignExtend.of (rw c.in-SignExtend.is at c.requires)),
+  subst (IsTypedIn c.args.state.now) (sym c.get-in-SignExtend.ensures)
+      (typing.sign_of c.args.state.now c.in-SignExtend.width c.in-SignExtend.of (rw c.in-SignExtend.is at c.requires)),
 )
 
 pub value-extend-requires-in-SignExtend-clause-at_least : goal.value-extend-requires-in-SignExtend-clause-at_least
@@ -85,7 +88,8 @@ value-extend-requires-in-SignExtend-clause-at_most t c =
 pub value-value-requires-in-Truncate : goal.value-value-requires-in-Truncate
 value-value-requires-in-Truncate t c = (
   first_of (search (rules, the_lemmas), grind (arith, the_lemmas)),
-  subst (IsTypedIn c.args.state.now) (sym c.get-in-Truncate.ensures) (typing.truncate_of c.args.state.now c.in-Truncate.width c.in-Truncate.of (rw c.in-Truncate.is at c.requires)),
+  subst (IsTypedIn c.args.state.now) (sym c.get-in-Truncate.ensures)
+      (typing.truncate_of c.args.state.now c.in-Truncate.width c.in-Truncate.of (rw c.in-Truncate.is at c.requires)),
 )
 
 pub value-truncate-requires-clause-at_least : goal.value-truncate-requires-clause-at_least
@@ -103,19 +107,22 @@ value-truncate-requires-clause-at_most t c =
 pub value-value-requires-in-Unary : goal.value-value-requires-in-Unary
 value-value-requires-in-Unary t c = (
   first_of (search (rules, the_lemmas), grind (arith, the_lemmas)),
-  subst (IsTypedIn c.args.state.now) (sym c.get-in-Unary.ensures) (typing.unary_of c.args.state.now c.in-Unary.op c.in-Unary.of (rw c.in-Unary.is at c.requires)),
+  subst (IsTypedIn c.args.state.now) (sym c.get-in-Unary.ensures)
+      (typing.unary_of c.args.state.now c.in-Unary.op c.in-Unary.of (rw c.in-Unary.is at c.requires)),
 )
 
 pub value-value-requires-in-Binary : goal.value-value-requires-in-Binary
 value-value-requires-in-Binary t c = (
   first_of (search (rules, the_lemmas), grind (arith, the_lemmas)),
-  subst (IsTypedIn c.args.state.now) (sym c.get-in-Binary.ensures) (typing.binary_left c.args.state.now c.in-Binary.op c.in-Binary.left c.in-Binary.right (rw c.in-Binary.is at c.requires)),
+  subst (IsTypedIn c.args.state.now) (sym c.get-in-Binary.ensures)
+      (typing.binary_left c.args.state.now c.in-Binary.op c.in-Binary.left c.in-Binary.right (rw c.in-Binary.is at c.requires)),
 )
 
 pub value-value-requires-in-Binary-2 : goal.value-value-requires-in-Binary-2
 value-value-requires-in-Binary-2 t c = (
   first_of (search (rules, the_lemmas), grind (arith, the_lemmas)),
-  subst (IsTypedIn c.args.state.now) (sym c.get-in-Binary-2.ensures) (typing.binary_right c.args.state.now c.in-Binary.op c.in-Binary.left c.in-Binary.right (rw c.in-Binary.is at c.requires)),
+  subst (IsTypedIn c.args.state.now) (sym c.get-in-Binary-2.ensures)
+      (typing.binary_right c.args.state.now c.in-Binary.op c.in-Binary.left c.in-Binary.right (rw c.in-Binary.is at c.requires)),
 )
 
 pub value-binary-requires : goal.value-binary-requires
@@ -129,13 +136,15 @@ value-binary-requires t c =
 pub value-value-requires-in-Join : goal.value-value-requires-in-Join
 value-value-requires-in-Join t c = (
   first_of (search (rules, the_lemmas), grind (arith, the_lemmas)),
-  subst (IsTypedIn c.args.state.now) (sym c.get-in-Join.ensures) (typing.join_high c.args.state.now c.in-Join.high c.in-Join.low (rw c.in-Join.is at c.requires)),
+  subst (IsTypedIn c.args.state.now) (sym c.get-in-Join.ensures)
+      (typing.join_high c.args.state.now c.in-Join.high c.in-Join.low (rw c.in-Join.is at c.requires)),
 )
 
 pub value-value-requires-in-Join-2 : goal.value-value-requires-in-Join-2
 value-value-requires-in-Join-2 t c = (
   first_of (search (rules, the_lemmas), grind (arith, the_lemmas)),
-  subst (IsTypedIn c.args.state.now) (sym c.get-in-Join-2.ensures) (typing.join_low c.args.state.now c.in-Join.high c.in-Join.low (rw c.in-Join.is at c.requires)),
+  subst (IsTypedIn c.args.state.now) (sym c.get-in-Join-2.ensures)
+      (typing.join_low c.args.state.now c.in-Join.high c.in-Join.low (rw c.in-Join.is at c.requires)),
 )
 
 pub value-concat-requires : goal.value-concat-requires
@@ -149,7 +158,8 @@ value-concat-requires t c =
 pub value-value-requires-in-Repeat : goal.value-value-requires-in-Repeat
 value-value-requires-in-Repeat t c = (
   first_of (search (rules, the_lemmas), grind (arith, the_lemmas)),
-  subst (IsTypedIn c.args.state.now) (sym c.get-in-Repeat.ensures) (typing.repeat_of c.args.state.now c.in-Repeat.count c.in-Repeat.of (rw c.in-Repeat.is at c.requires)),
+  subst (IsTypedIn c.args.state.now) (sym c.get-in-Repeat.ensures)
+      (typing.repeat_of c.args.state.now c.in-Repeat.count c.in-Repeat.of (rw c.in-Repeat.is at c.requires)),
 )
 
 pub value-repeated-requires-clause-some : goal.value-repeated-requires-clause-some
@@ -167,17 +177,20 @@ value-repeated-requires-clause-most t c =
 pub value-value-requires-in-Choose : goal.value-value-requires-in-Choose
 value-value-requires-in-Choose t c = (
   first_of (search (rules, the_lemmas), grind (arith, the_lemmas)),
-  subst (IsTypedIn c.args.state.now) (sym c.get-in-Choose.ensures) (typing.choose_test c.args.state.now c.in-Choose.test c.in-Choose.yes c.in-Choose.no (rw c.in-Choose.is at c.requires)),
+  subst (IsTypedIn c.args.state.now) (sym c.get-in-Choose.ensures)
+      (typing.choose_test c.args.state.now c.in-Choose.test c.in-Choose.yes c.in-Choose.no (rw c.in-Choose.is at c.requires)),
 )
 
 pub value-value-requires-then-value-eq0 : goal.value-value-requires-then-value-eq0
 value-value-requires-then-value-eq0 t c = (
   first_of (search (rules, the_lemmas), grind (arith, the_lemmas)),
-  subst (IsTypedIn c.args.state.now) (sym c.get-then-value-eq0.ensures) (typing.choose_right c.args.state.now c.in-Choose.test c.in-Choose.yes c.in-Choose.no (rw c.in-Choose.is at c.requires)),
+  subst (IsTypedIn c.args.state.now) (sym c.get-then-value-eq0.ensures)
+      (typing.choose_right c.args.state.now c.in-Choose.test c.in-Choose.yes c.in-Choose.no (rw c.in-Choose.is at c.requires)),
 )
 
 pub value-value-requires-in-Choose-2 : goal.value-value-requires-in-Choose-2
 value-value-requires-in-Choose-2 t c = (
   first_of (search (rules, the_lemmas), grind (arith, the_lemmas)),
-  subst (IsTypedIn c.args.state.now) (sym c.get-in-Choose-2.ensures) (typing.choose_left c.args.state.now c.in-Choose.test c.in-Choose.yes c.in-Choose.no (rw c.in-Choose.is at c.requires)),
+  subst (IsTypedIn c.args.state.now) (sym c.get-in-Choose-2.ensures)
+      (typing.choose_left c.args.state.now c.in-Choose.test c.in-Choose.yes c.in-Choose.no (rw c.in-Choose.is at c.requires)),
 )

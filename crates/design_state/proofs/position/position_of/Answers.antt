@@ -8,5 +8,6 @@ overflow_add-result c =
     omega (
       arith,
       c.not-below.ensures.value,
-      below_fits c.args.value.width c.args.value.bits low c.args.value.at_least c.args.value.at_most (c.is_negative.ensures.0 c.if-is_negative.true) (omega (arith, c.from-low.ensures, c.ranges.low)),
+      below_fits c.args.value.width c.args.value.bits low c.args.value.at_least c.args.value.at_most (c.is_negative.ensures.0 c.if-is_negative.true)
+          (omega (arith, c.from-low.ensures, c.ranges.low)),
     )

@@ -12,7 +12,8 @@ returns-clause-laid c =
     let slot : Slot = record { base = length c.as_slice-base.result.now; count = v.words; width = v.width } in
     let base : slot.base ≡ 0 + length words = ap length c.as_slice-base.ensures.value ∙ omega arith in
     rw (c.in_ok-push.ensures.items, c.in_ok-put_words.ensures)
-    (more_laid 0 c.args.slots.now.items words slot (replicate v.words v.start) c.requires.laid base b.0 b.1 (length-replicate {A = ℕ} v.words v.start) (all_same _ v.start v.words b.2))
+    (more_laid 0 c.args.slots.now.items words slot (replicate v.words v.start) c.requires.laid base b.0 b.1 (length-replicate {A = ℕ} v.words v.start)
+    (all_same _ v.start v.words b.2))
 
 pub returns-clause-split : goal.returns-clause-split
 returns-clause-split c =

@@ -6,4 +6,5 @@ pub bounds-slots-var : goal.bounds-slots-var
 bounds-slots-var c = subst (λ n. c.args.var < n) (length_split c.args.slots.now c.args.words.now) c.requires.var
 
 pub returns : goal.returns
-returns c = stands_at_base c.args.slots.now c.args.words.now c.args.var _ c.requires.laid (subst (λ n. c.args.var < n) (length_split c.args.slots.now c.args.words.now) c.requires.var)
+returns c = stands_at_base c.args.slots.now c.args.words.now c.args.var _ c.requires.laid
+    (subst (λ n. c.args.var < n) (length_split c.args.slots.now c.args.words.now) c.requires.var)
