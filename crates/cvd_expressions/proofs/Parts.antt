@@ -1,6 +1,6 @@
 -- Typing, width and depth of a node from those of its operands.
 use Rattle.std.proofs.Common.{◌≡◌, ℕ, ◌+◌, ◌*◌, ◌^◌, ◌<◌, Bool, true, false, List, length, Some, None, refl, sym, ◌∙◌, ap, arith}
-use Rattle.std.specs.Prelude.{◌&&◌, ◌||◌, ◌==◌, max, nat_le, nat_lt}
+use Rattle.std.specs.Prelude.{◌&&◌, ◌||◌, ◌==◌, max, nat_le, nat_lt, IfOk, Result, Ok, Err}
 use Rattle.std.specs.List.{slice_get, slice_index_or}
 use Rattle.std.proofs.lemmas.Option.{slice_get_within, get_or_from_slice_get, slice_get-get_or}
 use Rattle.std.proofs.lemmas.Bool.{cases_Bool}
@@ -24,6 +24,11 @@ use Rattle.cvd_text.specs.Targets.{is_expression}
 use Rattle.cvd_nodes.specs.Trees.{index}
 use Rattle.cvd_expressions.specs.Builds.{IsBuilt}
 use Rattle.cvd_expressions.specs.declared.built.Built.{Built}
+
+-- what is known of a value tells of it what follows
+pub tells : {X E : Type 0} (r : Result X E) (P Q : X → Type 0) → ((x : X) → P x → Q x) → IfOk r P → IfOk r Q
+tells (Ok x) P Q f h = f x h
+tells (Err e) P Q f h = h
 
 -- an operand, with its width and its depth
 pub record Operand (d : Design) (x : Typed) (w n : ℕ) : Type 0 where

@@ -13,13 +13,13 @@ use cov_types::Var;
 use cvd_cursor::{Cursor, ReadFault};
 use cvd_nodes::{Node, read_nodes};
 use design_tree::Typed;
-use sqlite_items::Items;
+use sqlite_items::{Boxed, Items};
 use std::alloc::{AllocError, Global};
 
 /// An expression with its width and the number of its nodes.
 #[derive(Drop)]
 pub struct Expression {
-    pub tree: Typed,
+    pub tree: Boxed<Typed>,
     pub width: u8,
     pub nodes: usize,
 }

@@ -10,7 +10,6 @@ use crate::built::Built;
 use crate::one::finished;
 use crate::test::{binary_width, is_width, may_choose, may_meet};
 use design_tree::{Index, Typed, TypedBinary};
-use sqlite_items::Boxed;
 use std::alloc::{AllocError, Global};
 
 pub(crate) fn part(
@@ -36,10 +35,13 @@ pub(crate) fn part(
         width: _,
         depth: second,
     } = value;
-    let of = Boxed::new(alloc, of)?;
-    let value = Boxed::new(alloc, value)?;
     let at = Index { low, signed, value };
-    Ok(finished(Typed::Part { width, of, at }, width, above(first, second)))
+    finished(
+        alloc,
+        Typed::Part { width, of, at },
+        width,
+        above(first, second),
+    )
 }
 
 pub(crate) fn binary(
@@ -63,13 +65,12 @@ pub(crate) fn binary(
         width: _,
         depth: second,
     } = right;
-    let left = Boxed::new(alloc, left)?;
-    let right = Boxed::new(alloc, right)?;
-    Ok(finished(
+    finished(
+        alloc,
         Typed::Binary { op, left, right },
         binary_width(op, width),
         above(first, second),
-    ))
+    )
 }
 
 pub(crate) fn join(alloc: Global, high: Built, low: Built) -> Result<Option<Built>, AllocError>
@@ -89,9 +90,12 @@ pub(crate) fn join(alloc: Global, high: Built, low: Built) -> Result<Option<Buil
         width: _,
         depth: second,
     } = low;
-    let high = Boxed::new(alloc, high)?;
-    let low = Boxed::new(alloc, low)?;
-    Ok(finished(Typed::Join { high, low }, width as u8, above(first, second)))
+    finished(
+        alloc,
+        Typed::Join { high, low },
+        width as u8,
+        above(first, second),
+    )
 }
 
 pub(crate) fn choice(
@@ -120,14 +124,12 @@ pub(crate) fn choice(
         width: _,
         depth: third,
     } = no;
-    let test = Boxed::new(alloc, test)?;
-    let yes = Boxed::new(alloc, yes)?;
-    let no = Boxed::new(alloc, no)?;
-    Ok(finished(
+    finished(
+        alloc,
         Typed::Choose { test, yes, no },
         width,
         above_all(first, second, third),
-    ))
+    )
 }
 
 /// The depth of a node above operands of these depths.

@@ -21,34 +21,40 @@ use std::alloc::{AllocError, Global};
 const MOST: u16 = 2_000;
 
 /// An expression, unless it is too deep.
-pub(crate) fn finished(tree: Typed, width: u8, depth: u16) -> Option<Built>
-    ensures { (d : Design) → typed.is_typed d tree ≡ true → width ≡ width_of d tree → depth ≡ sizes.depth tree → Builds d tree result }
+pub(crate) fn finished(
+    alloc: Global,
+    tree: Typed,
+    width: u8,
+    depth: u16,
+) -> Result<Option<Built>, AllocError>
+    ensures { IfOk result (λ held. (d : Design) → typed.is_typed d tree ≡ true → width ≡ width_of d tree → depth ≡ sizes.depth tree → Builds d tree held) }
 {
+    let tree = Boxed::new(alloc, tree)?;
     if depth > MOST {
-        return None;
+        return Ok(None);
     }
-    Some(Built { tree, width, depth })
+    Ok(Some(Built { tree, width, depth }))
 }
 
-pub(crate) fn number(width: u8, value: u128) -> Option<Built>
-    ensures { (d : Design) → Builds d (e.Number width value) result }
+pub(crate) fn number(alloc: Global, width: u8, value: u128) -> Result<Option<Built>, AllocError>
+    ensures { IfOk result (λ held. (d : Design) → Builds d (e.Number width value) held) }
 {
     if !may_be_number(width, value) {
-        return None;
+        return Ok(None);
     }
-    finished(Typed::Number { width, value }, width, 1)
+    finished(alloc, Typed::Number { width, value }, width, 1)
 }
 
-pub(crate) fn variable(vars: &[Var], var: u32) -> Option<Built>
-    ensures { (d : Design) → d.vars ≡ vars.now → Builds d (e.Var var) result }
+pub(crate) fn variable(alloc: Global, vars: &[Var], var: u32) -> Result<Option<Built>, AllocError>
+    ensures { IfOk result (λ held. (d : Design) → d.vars ≡ vars.now → Builds d (e.Var var) held) }
 {
     let Some(found) = variable_at(vars, var) else {
-        return None;
+        return Ok(None);
     };
     if found.words != 1 {
-        return None;
+        return Ok(None);
     }
-    finished(Typed::Var { var }, found.width, 1)
+    finished(alloc, Typed::Var { var }, found.width, 1)
 }
 
 /// The variable of a number.
@@ -75,13 +81,12 @@ pub(crate) fn word(
         return Ok(None);
     };
     let Built {
-        tree,
+        tree: value,
         width: _,
         depth,
     } = of;
-    let value = Boxed::new(alloc, tree)?;
     let at = Index { low, signed, value };
-    Ok(finished(Typed::Word { var, at }, found.width, depth + 1))
+    finished(alloc, Typed::Word { var, at }, found.width, depth + 1)
 }
 
 pub(crate) fn zeros(alloc: Global, width: u8, of: Built) -> Result<Option<Built>, AllocError>
@@ -91,12 +96,11 @@ pub(crate) fn zeros(alloc: Global, width: u8, of: Built) -> Result<Option<Built>
         return Ok(None);
     }
     let Built {
-        tree,
+        tree: of,
         width: _,
         depth,
     } = of;
-    let of = Boxed::new(alloc, tree)?;
-    Ok(finished(Typed::ZeroExtend { width, of }, width, depth + 1))
+    finished(alloc, Typed::ZeroExtend { width, of }, width, depth + 1)
 }
 
 pub(crate) fn signs(alloc: Global, width: u8, of: Built) -> Result<Option<Built>, AllocError>
@@ -106,12 +110,11 @@ pub(crate) fn signs(alloc: Global, width: u8, of: Built) -> Result<Option<Built>
         return Ok(None);
     }
     let Built {
-        tree,
+        tree: of,
         width: _,
         depth,
     } = of;
-    let of = Boxed::new(alloc, tree)?;
-    Ok(finished(Typed::SignExtend { width, of }, width, depth + 1))
+    finished(alloc, Typed::SignExtend { width, of }, width, depth + 1)
 }
 
 pub(crate) fn cut(alloc: Global, width: u8, of: Built) -> Result<Option<Built>, AllocError>
@@ -121,20 +124,27 @@ pub(crate) fn cut(alloc: Global, width: u8, of: Built) -> Result<Option<Built>, 
         return Ok(None);
     }
     let Built {
-        tree,
+        tree: of,
         width: _,
         depth,
     } = of;
-    let of = Boxed::new(alloc, tree)?;
-    Ok(finished(Typed::Truncate { width, of }, width, depth + 1))
+    finished(alloc, Typed::Truncate { width, of }, width, depth + 1)
 }
 
 pub(crate) fn unary(alloc: Global, op: TypedUnary, of: Built) -> Result<Option<Built>, AllocError>
     ensures { IfOk result (λ held. (d : Design) → IsBuilt d of → Builds d (e.Unary op of.tree) held) }
 {
-    let Built { tree, width, depth } = of;
-    let of = Boxed::new(alloc, tree)?;
-    Ok(finished(Typed::Unary { op, of }, unary_width(op, width), depth + 1))
+    let Built {
+        tree: of,
+        width,
+        depth,
+    } = of;
+    finished(
+        alloc,
+        Typed::Unary { op, of },
+        unary_width(op, width),
+        depth + 1,
+    )
 }
 
 pub(crate) fn repeats(alloc: Global, count: u8, of: Built) -> Result<Option<Built>, AllocError>
@@ -145,10 +155,9 @@ pub(crate) fn repeats(alloc: Global, count: u8, of: Built) -> Result<Option<Buil
         return Ok(None);
     }
     let Built {
-        tree,
+        tree: of,
         width: _,
         depth,
     } = of;
-    let of = Boxed::new(alloc, tree)?;
-    Ok(finished(Typed::Repeat { count, of }, width as u8, depth + 1))
+    finished(alloc, Typed::Repeat { count, of }, width as u8, depth + 1)
 }

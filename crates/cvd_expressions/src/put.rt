@@ -23,7 +23,7 @@ pub(crate) fn put(
 {
     let operands = arity(node);
     if operands == 0 {
-        return Ok(leaf(node, vars));
+        return leaf(alloc, node, vars);
     }
     if operands == 1 {
         return put_one(alloc, node, stack, vars);
@@ -115,13 +115,13 @@ fn put_three(
     Ok(held)
 }
 
-fn leaf(node: Node, vars: &[Var]) -> Option<Built>
-    ensures { (d : Design) (t : Typed) → d.vars ≡ vars.now → push node [] ≡ Some (t ∷ []) → Builds d t result }
+fn leaf(alloc: Global, node: Node, vars: &[Var]) -> Result<Option<Built>, AllocError>
+    ensures { IfOk result (λ held. (d : Design) (t : Typed) → d.vars ≡ vars.now → push node [] ≡ Some (t ∷ []) → Builds d t held) }
 {
     match node {
-        Node::Number { width, value } => number(width, value),
-        Node::Var { var } => variable(vars, var),
-        _ => None,
+        Node::Number { width, value } => number(alloc, width, value),
+        Node::Var { var } => variable(alloc, vars, var),
+        _ => Ok(None),
     }
 }
 

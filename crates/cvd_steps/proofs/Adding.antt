@@ -65,7 +65,8 @@ adds_up before bits steps nodes shown p q r b s n w =
     let more : bits ≡ before.bits + 0 = omega arith in
     record {
       same = ap (λ z. nat_le z (most limit.StateBits) && nat_le steps m && nat_le nodes k && nat_le shown l) more
-          ∙ ap (λ t. nat_le (before.bits + 0) (most limit.StateBits) && t && nat_le nodes k && nat_le shown l) (same_test before.steps p steps m s (omega arith))
+          ∙ ap (λ t. nat_le (before.bits + 0) (most limit.StateBits) && t && nat_le nodes k && nat_le shown l)
+          (same_test before.steps p steps m s (omega arith))
           ∙ ap (λ t. nat_le (before.bits + 0) (most limit.StateBits) && nat_le (before.steps + p) m && t && nat_le shown l)
           (same_test before.nodes q nodes k n (omega arith))
           ∙ ap (λ t. nat_le (before.bits + 0) (most limit.StateBits) && nat_le (before.steps + p) m && nat_le (before.nodes + q) k && t)

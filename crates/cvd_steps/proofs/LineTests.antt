@@ -144,7 +144,8 @@ module _ (around : Around) (before : Load) (at : Spot) where
     pub show_breaks : may_be_pieces around.design ps ≡ false → false ≡ stands before (show_line around at ps)
     show_breaks s = sym (broken (may_stand around.kind at speaks) all (within of long) (λ t w.
         let f = within_parts before 1 of long w in
-        true≢false (sym (both (all && nat_le of (most limit.Nodes)) _ (both all _ t (test_le of (most limit.Nodes) f.0)) (test_le long (most limit.EdgeText) f.1)) ∙ s)))
+        true≢false (sym (both (all && nat_le of (most limit.Nodes)) _ (both all _ t (test_le of (most limit.Nodes) f.0))
+        (test_le long (most limit.EdgeText) f.1)) ∙ s)))
 
   -- ---- `finish` and `stop`
 

@@ -44,13 +44,15 @@ module _ (around : Around) (before : Load) (at : Spot) where
   load_count counter = ap Behind (fold-Count StepText ArmText (step_lines around) (arm_lines around) counter)
 
   pub load_if : (test : Typed) (left right : List Step) → Behind (lines_of_step around (step.If test left right))
-      ≡ load_behind (load_behind (added before (if_line around at test).load) (block_lines_at around (at.deep + 1) left)) (block_lines_at around (at.deep + 1) right)
+      ≡ load_behind (load_behind (added before (if_line around at test).load) (block_lines_at around (at.deep + 1) left))
+      (block_lines_at around (at.deep + 1) right)
   load_if test left right =
       ap Behind (fold-If StepText ArmText (step_lines around) (arm_lines around) test left right)
       ∙ load_join (added before (if_line around at test).load) (block_lines_at around (at.deep + 1) left) (block_lines_at around (at.deep + 1) right)
 
   pub load_case : (n : ℕ) (on : Typed) (arms : List StepArm) (rest : List Step) → Behind (lines_of_step around (step.Case on arms rest))
-      ≡ load_behind (behind_arms around (width_of around.design on) at.deep (added before (case_line around at n on).load) arms) (block_lines_at around (at.deep + 1) rest)
+      ≡ load_behind (behind_arms around (width_of around.design on) at.deep (added before (case_line around at n on).load) arms)
+      (block_lines_at around (at.deep + 1) rest)
   load_case n on arms rest =
       let width = width_of around.design on in
       let front = flat_map (λ (arm : ArmText). arm width at.deep) (map (lines_of_arm around) arms) in

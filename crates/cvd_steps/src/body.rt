@@ -167,7 +167,7 @@ fn tested(
     let no = block(alloc, cursor, vars, process, place.deep + 1, yes.sums)?;
     let sums = no.sums;
     let step = Step::If {
-        test: first.test,
+        test: first.test.into_inner(),
         yes: yes.steps,
         no: no.steps,
     };
@@ -201,7 +201,7 @@ fn chosen(
     let rest = block(alloc, cursor, vars, process, place.deep + 1, arms.sums)?;
     let sums = rest.sums;
     let step = Step::Case {
-        on: first.on,
+        on: first.on.into_inner(),
         arms: arms.arms,
         rest: rest.steps,
     };

@@ -90,7 +90,10 @@ fn read_item(
     };
     let holds = both(wide == width, fits(width, mask));
     let sums = close(cursor, holds, sums, own)?;
-    let item = StepItem { mask, value: tree };
+    let item = StepItem {
+        mask,
+        value: tree.into_inner(),
+    };
     Ok(ReadItem { item, sums })
 }
 

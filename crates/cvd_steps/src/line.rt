@@ -17,13 +17,14 @@ use cvd_expressions::{Expression, read_expression};
 use cvd_nodes::number32;
 use cvd_targets::{Assigned, Pieces, read_assigned, read_pieces, turns};
 use design_tree::{Piece, Target, Typed};
+use sqlite_items::Boxed;
 use std::alloc::Global;
 
 /// What a `set` or `later` assigns.
 #[derive(Drop)]
 pub(crate) struct AssignedLine {
     pub(crate) targets: Rows<Target>,
-    pub(crate) value: Typed,
+    pub(crate) value: Boxed<Typed>,
     pub(crate) sums: Sums,
 }
 
@@ -63,7 +64,7 @@ pub(crate) fn assigned_line(
 /// The test of an `if`.
 #[derive(Drop)]
 pub(crate) struct TestLine {
-    pub(crate) test: Typed,
+    pub(crate) test: Boxed<Typed>,
     pub(crate) sums: Sums,
 }
 
@@ -96,7 +97,7 @@ pub(crate) fn test_line(
 /// What a `case` compares, its width, and how often an arm has to be read.
 #[derive(Drop)]
 pub(crate) struct CaseLine {
-    pub(crate) on: Typed,
+    pub(crate) on: Boxed<Typed>,
     pub(crate) width: u8,
     pub(crate) turns: u128,
     pub(crate) sums: Sums,

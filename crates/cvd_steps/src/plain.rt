@@ -40,7 +40,10 @@ pub(crate) fn set(
         value,
         sums,
     } = line;
-    let step = Step::Set { targets, value };
+    let step = Step::Set {
+        targets,
+        value: value.into_inner(),
+    };
     Ok(ReadStep { step, sums })
 }
 
@@ -63,7 +66,10 @@ pub(crate) fn later(
         value,
         sums,
     } = line;
-    let step = Step::Later { targets, value };
+    let step = Step::Later {
+        targets,
+        value: value.into_inner(),
+    };
     Ok(ReadStep { step, sums })
 }
 

@@ -116,7 +116,8 @@ module _ {A : Type 0} (f : A → Bool) (g h : A → ℕ) (m n : ℕ) where
       let t = total_more g xs x in
       let u = total_more h xs x in
       record {
-        before = both _ _ (both _ _ (left_of (list_all f xs) (f x) all) (test_le (total (map g xs)) m (omega arith))) (test_le (total (map h xs)) n (omega arith));
+        before = both _ _ (both _ _ (left_of (list_all f xs) (f x) all) (test_le (total (map g xs)) m (omega arith)))
+            (test_le (total (map h xs)) n (omega arith));
         one = right_of (list_all f xs) (f x) all;
         first = omega arith;
         second = omega arith;

@@ -11,6 +11,7 @@ use cov_types::{ProcessKind, Rows, Var};
 use cvd_cursor::{Cursor, ReadFault};
 use cvd_expressions::{Expression, read_expression};
 use design_tree::{Target, Typed};
+use sqlite_items::Boxed;
 use std::alloc::Global;
 
 /// The greatest number of nodes of the expressions of a design.
@@ -20,7 +21,7 @@ const MOST: usize = 4_194_304;
 #[derive(Drop)]
 pub struct Assigned {
     pub targets: Rows<Target>,
-    pub value: Typed,
+    pub value: Boxed<Typed>,
     pub nodes: usize,
 }
 

@@ -76,6 +76,7 @@ fn keep(kept: &mut Pieces, whole: bool, one: Option<Shown>) -> Result<bool, NoMe
     ensures { IfOk result (λ done. (d : Design) (ps : List AnyPiece) (p : AnyPiece) → SoFar d ps whole kept.old → PieceIn d p one → SoFar d (ps ++ p ∷ []) done kept.new) }
 {
     if !whole {
+        drop(one);
         return Ok(false);
     }
     let Some(one) = one else {
@@ -90,6 +91,7 @@ fn put(kept: &mut Pieces, one: Shown) -> Result<bool, NoMemory>
     let nodes = kept.nodes.saturating_add(one.nodes);
     let shown = kept.shown.saturating_add(one.shown);
     if !are_within(nodes, shown) {
+        drop(one);
         return Ok(false);
     }
     kept.items.push(one.piece)?;

@@ -1,4 +1,4 @@
-ghost use Rattle.std.specs.Prelude.{◌≡◌, ◌≤◌, ◌^◌, ℕ, length, IfOk};
+ghost use Rattle.std.specs.Prelude.{◌≡◌, ◌≤◌, ◌^◌, ℕ, length};
 ghost use Rattle.cvd_cursor.specs.Numerals.{below};
 ghost use Rattle.cvd_cursor.specs.Reads.{Reads};
 ghost use Rattle.cvd_targets.specs.Positions.{ExpressionIn, PositionIn, at_marks};
@@ -11,8 +11,7 @@ use cvd_cursor::{Cursor, ReadFault};
 use cvd_expressions::{Expression, read_expression};
 use cvd_nodes::low;
 use design_tree::Index;
-use sqlite_items::Boxed;
-use std::alloc::{AllocError, Global};
+use std::alloc::Global;
 
 /// A position with the number of its nodes.
 #[derive(Drop)]
@@ -32,30 +31,23 @@ pub(crate) fn read_position(
 {
     let from = low(cursor)?;
     let value = read_expression(alloc, cursor, vars)?;
-    let held = position_of(alloc, from.0, from.1, value)?;
-    Ok(held)
+    Ok(position_of(from.0, from.1, value))
 }
 
-fn position_of(
-    alloc: Global,
-    low: Option<u32>,
-    signed: bool,
-    value: Option<Expression>,
-) -> Result<Option<Position>, AllocError>
-    ensures { IfOk result (λ held. (d : Design) (l : ℕ) (tree : AnyTyped) → low ≡ below (2 ^ 32) l → ExpressionIn d tree value → PositionIn d ((l, signed), tree) held) }
+fn position_of(low: Option<u32>, signed: bool, value: Option<Expression>) -> Option<Position>
+    ensures { (d : Design) (l : ℕ) (tree : AnyTyped) → low ≡ below (2 ^ 32) l → ExpressionIn d tree value → PositionIn d ((l, signed), tree) result }
 {
     let Some(low) = low else {
-        return Ok(None);
+        return None;
     };
     let Some(value) = value else {
-        return Ok(None);
+        return None;
     };
     let Expression {
-        tree,
+        tree: value,
         width: _,
         nodes,
     } = value;
-    let value = Boxed::new(alloc, tree)?;
     let at = Index { low, signed, value };
-    Ok(Some(Position { at, nodes }))
+    Some(Position { at, nodes })
 }

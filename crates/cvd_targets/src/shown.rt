@@ -25,6 +25,7 @@ fn finished(piece: Piece, nodes: usize, shown: usize) -> Option<Shown>
     ensures { (d : Design) → is_piece d piece ≡ true → nodes ≡ piece_nodes piece → piece_nodes piece ≤ 4194304 → shown ≡ piece_length d piece → PieceIn d piece result }
 {
     if shown > MOST {
+        drop(piece);
         return None;
     }
     Some(Shown {
@@ -58,7 +59,7 @@ pub(crate) fn dec_piece(signed: bool, short: bool, value: Option<Expression>) ->
     let piece = Piece::Dec {
         signed,
         short,
-        value: tree,
+        value: tree.into_inner(),
     };
     finished(piece, nodes, shown)
 }
@@ -74,7 +75,10 @@ pub(crate) fn hex_piece(short: bool, value: Option<Expression>) -> Option<Shown>
         return None;
     }
     let shown = hex_digits(width) as usize;
-    let piece = Piece::Hex { short, value: tree };
+    let piece = Piece::Hex {
+        short,
+        value: tree.into_inner(),
+    };
     finished(piece, nodes, shown)
 }
 
@@ -85,7 +89,10 @@ pub(crate) fn bin_piece(short: bool, value: Option<Expression>) -> Option<Shown>
         return None;
     };
     let Expression { tree, width, nodes } = value;
-    let piece = Piece::Bin { short, value: tree };
+    let piece = Piece::Bin {
+        short,
+        value: tree.into_inner(),
+    };
     finished(piece, nodes, width as usize)
 }
 

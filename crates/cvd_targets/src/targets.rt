@@ -73,6 +73,7 @@ fn keep(kept: &mut Targets, whole: bool, one: Option<Written>) -> Result<bool, N
     ensures { IfOk result (λ done. (d : Design) (k : AnyKind) (ts : List AnyTarget) (t : AnyTarget) → SoFar d k ts whole kept.old → TargetIn d k t one → SoFar d k (ts ++ t ∷ []) done kept.new) }
 {
     if !whole {
+        drop(one);
         return Ok(false);
     }
     let Some(one) = one else {
@@ -80,10 +81,12 @@ fn keep(kept: &mut Targets, whole: bool, one: Option<Written>) -> Result<bool, N
     };
     let width = kept.width as u16 + one.width as u16;
     if width > 255 {
+        drop(one);
         return Ok(false);
     }
     let nodes = kept.nodes.saturating_add(one.nodes);
     if nodes > MOST {
+        drop(one);
         return Ok(false);
     }
     let Written {

@@ -1,4 +1,4 @@
-ghost use Rattle.std.specs.Prelude.{[], ◌∷◌, codes, flat_map};
+ghost use Rattle.std.specs.Prelude.{◌≡◌, [], ◌∷◌, ◌++◌, codes, flat_map, OnOk};
 ghost use Rattle.cvd_text.specs.Tokens.{counters_text, decimal_text};
 ghost use Rattle.cvd_write.specs.Writing.{Writes, input_row, output_row, point_row, process_text, row, section, toggle_row, var_row};
 
@@ -7,6 +7,7 @@ use crate::step::{block, numbered_line};
 use crate::word::{kind_word, process_word};
 use crate::writer::Writer;
 use design_tree::{Input, PointRow, Process, ToggleEntry, Var};
+use std::alloc::AllocError;
 
 pub(crate) fn vars(out: &mut Writer, things: &[Var]) -> Result<(), WriteFault>
     ensures { Writes out.old (section (codes "vars") var_row things.now) result out.new }
@@ -20,12 +21,13 @@ fn all_vars(out: &mut Writer, things: &[Var]) -> Result<(), WriteFault>
 {
     for one in things {
         var(out, one)?;
+        out.within()?;
     }
     Ok(())
 }
 
-fn var(out: &mut Writer, one: &Var) -> Result<(), WriteFault>
-    ensures { Writes out.old (var_row one.now) result out.new }
+fn var(out: &mut Writer, one: &Var) -> Result<(), AllocError>
+    ensures { OnOk result (out.new ≡ out.old ++ var_row one.now) }
 {
     out.decimal(one.width as u64)?;
     out.number(one.words as u64)?;
@@ -46,12 +48,13 @@ fn all_inputs(out: &mut Writer, things: &[Input]) -> Result<(), WriteFault>
 {
     for one in things {
         input(out, one)?;
+        out.within()?;
     }
     Ok(())
 }
 
-fn input(out: &mut Writer, one: &Input) -> Result<(), WriteFault>
-    ensures { Writes out.old (input_row one.now) result out.new }
+fn input(out: &mut Writer, one: &Input) -> Result<(), AllocError>
+    ensures { OnOk result (out.new ≡ out.old ++ input_row one.now) }
 {
     out.decimal(one.var as u64)?;
     out.word(one.name.as_slice())?;
@@ -70,12 +73,13 @@ fn all_outputs(out: &mut Writer, things: &[u32]) -> Result<(), WriteFault>
 {
     for one in things {
         output(out, *one)?;
+        out.within()?;
     }
     Ok(())
 }
 
-fn output(out: &mut Writer, var: u32) -> Result<(), WriteFault>
-    ensures { Writes out.old (output_row var) result out.new }
+fn output(out: &mut Writer, var: u32) -> Result<(), AllocError>
+    ensures { OnOk result (out.new ≡ out.old ++ output_row var) }
 {
     out.decimal(var as u64)?;
     out.end()
@@ -93,20 +97,21 @@ fn all_processes(out: &mut Writer, things: &[Process]) -> Result<(), WriteFault>
 {
     for one in things {
         process(out, one)?;
+        out.within()?;
     }
     Ok(())
 }
 
-fn process(out: &mut Writer, one: &Process) -> Result<(), WriteFault>
-    ensures { Writes out.old (process_text one.now) result out.new }
+fn process(out: &mut Writer, one: &Process) -> Result<(), AllocError>
+    ensures { OnOk result (out.new ≡ out.old ++ process_text one.now) }
 {
     line(out, process_word(one.kind))?;
     block(out, one.body.as_slice())
 }
 
 /// A line of one word.
-pub(crate) fn line(out: &mut Writer, name: &[u8]) -> Result<(), WriteFault>
-    ensures { Writes out.old (row name.now []) result out.new }
+pub(crate) fn line(out: &mut Writer, name: &[u8]) -> Result<(), AllocError>
+    ensures { OnOk result (out.new ≡ out.old ++ row name.now []) }
 {
     out.put(name)?;
     out.end()
@@ -124,12 +129,13 @@ fn all_toggles(out: &mut Writer, things: &[ToggleEntry]) -> Result<(), WriteFaul
 {
     for one in things {
         toggle(out, one)?;
+        out.within()?;
     }
     Ok(())
 }
 
-fn toggle(out: &mut Writer, one: &ToggleEntry) -> Result<(), WriteFault>
-    ensures { Writes out.old (toggle_row one.now) result out.new }
+fn toggle(out: &mut Writer, one: &ToggleEntry) -> Result<(), AllocError>
+    ensures { OnOk result (out.new ≡ out.old ++ toggle_row one.now) }
 {
     out.decimal(one.var as u64)?;
     out.number(one.word as u64)?;
@@ -150,12 +156,13 @@ fn all_points(out: &mut Writer, things: &[PointRow]) -> Result<(), WriteFault>
 {
     for one in things {
         point(out, one)?;
+        out.within()?;
     }
     Ok(())
 }
 
-fn point(out: &mut Writer, one: &PointRow) -> Result<(), WriteFault>
-    ensures { Writes out.old (point_row one.now) result out.new }
+fn point(out: &mut Writer, one: &PointRow) -> Result<(), AllocError>
+    ensures { OnOk result (out.new ≡ out.old ++ point_row one.now) }
 {
     counters(out, one.plus.as_slice())?;
     out.put(b" ")?;
@@ -165,8 +172,8 @@ fn point(out: &mut Writer, one: &PointRow) -> Result<(), WriteFault>
 }
 
 /// A list of counters, joined by commas, or `-`.
-fn counters(out: &mut Writer, list: &[u32]) -> Result<(), WriteFault>
-    ensures { Writes out.old (counters_text list.now) result out.new }
+fn counters(out: &mut Writer, list: &[u32]) -> Result<(), AllocError>
+    ensures { OnOk result (out.new ≡ out.old ++ counters_text list.now) }
 {
     if list.is_empty() {
         return out.put(b"-");
@@ -176,8 +183,8 @@ fn counters(out: &mut Writer, list: &[u32]) -> Result<(), WriteFault>
 }
 
 /// Further counters, each behind a comma.
-fn more_counters(out: &mut Writer, list: &[u32]) -> Result<(), WriteFault>
-    ensures { Writes out.old (flat_map (λ n. 44 ∷ decimal_text n) list.now) result out.new }
+fn more_counters(out: &mut Writer, list: &[u32]) -> Result<(), AllocError>
+    ensures { OnOk result (out.new ≡ out.old ++ flat_map (λ n. 44 ∷ decimal_text n) list.now) }
 {
     for one in list {
         further_counter(out, *one)?;
@@ -185,8 +192,8 @@ fn more_counters(out: &mut Writer, list: &[u32]) -> Result<(), WriteFault>
     Ok(())
 }
 
-fn further_counter(out: &mut Writer, counter: u32) -> Result<(), WriteFault>
-    ensures { Writes out.old (44 ∷ decimal_text counter) result out.new }
+fn further_counter(out: &mut Writer, counter: u32) -> Result<(), AllocError>
+    ensures { OnOk result (out.new ≡ out.old ++ (44 ∷ decimal_text counter)) }
 {
     out.put(b",")?;
     out.decimal(counter as u64)

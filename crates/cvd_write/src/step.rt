@@ -1,19 +1,19 @@
-ghost use Rattle.std.specs.Prelude.{[], ◌∷◌, ◌++◌, codes, flat_map, map, length};
+ghost use Rattle.std.specs.Prelude.{◌≡◌, [], ◌∷◌, ◌++◌, codes, flat_map, map, length, OnOk};
 ghost use Rattle.cvd_text.specs.Expressions.{tokens_of};
 ghost use Rattle.cvd_text.specs.Targets.{piece_tokens};
 ghost use Rattle.cvd_text.specs.Tokens.{number};
-ghost use Rattle.cvd_write.specs.Writing.{Writes, arm_text, block_text, item_row, row, step_text};
+ghost use Rattle.cvd_write.specs.Writing.{arm_text, block_text, item_row, row, step_text};
 
 use crate::expression::expression;
-use crate::fault::WriteFault;
 use crate::target::{all_pieces, assignment};
 use crate::writer::Writer;
 use design_tree::{Piece, Step, StepArm, StepItem, Typed};
+use std::alloc::AllocError;
 
 /// A block of steps.
 #[cycle(step)]
-pub(crate) fn block(out: &mut Writer, steps: &[Step]) -> Result<(), WriteFault>
-    ensures { Writes out.old (block_text (map step_text steps.now)) result out.new }
+pub(crate) fn block(out: &mut Writer, steps: &[Step]) -> Result<(), AllocError>
+    ensures { OnOk result (out.new ≡ out.old ++ block_text (map step_text steps.now)) }
 {
     out.put(b"begin\n")?;
     all_steps(out, steps)?;
@@ -21,8 +21,8 @@ pub(crate) fn block(out: &mut Writer, steps: &[Step]) -> Result<(), WriteFault>
 }
 
 #[cycle(step)]
-fn all_steps(out: &mut Writer, steps: &[Step]) -> Result<(), WriteFault>
-    ensures { Writes out.old (flat_map step_text steps.now) result out.new }
+fn all_steps(out: &mut Writer, steps: &[Step]) -> Result<(), AllocError>
+    ensures { OnOk result (out.new ≡ out.old ++ flat_map step_text steps.now) }
 {
     for one in steps {
         step(out, one)?;
@@ -31,8 +31,8 @@ fn all_steps(out: &mut Writer, steps: &[Step]) -> Result<(), WriteFault>
 }
 
 #[cycle(step)]
-fn step(out: &mut Writer, one: &Step) -> Result<(), WriteFault>
-    ensures { Writes out.old (step_text one.now) result out.new }
+fn step(out: &mut Writer, one: &Step) -> Result<(), AllocError>
+    ensures { OnOk result (out.new ≡ out.old ++ step_text one.now) }
 {
     match one {
         Step::Set { targets, value } => {
@@ -61,8 +61,8 @@ fn step(out: &mut Writer, one: &Step) -> Result<(), WriteFault>
 }
 
 #[cycle(step)]
-fn all_arms(out: &mut Writer, arms: &[StepArm]) -> Result<(), WriteFault>
-    ensures { Writes out.old (flat_map arm_text arms.now) result out.new }
+fn all_arms(out: &mut Writer, arms: &[StepArm]) -> Result<(), AllocError>
+    ensures { OnOk result (out.new ≡ out.old ++ flat_map arm_text arms.now) }
 {
     for one in arms {
         arm(out, one)?;
@@ -71,16 +71,16 @@ fn all_arms(out: &mut Writer, arms: &[StepArm]) -> Result<(), WriteFault>
 }
 
 #[cycle(step)]
-fn arm(out: &mut Writer, one: &StepArm) -> Result<(), WriteFault>
-    ensures { Writes out.old (arm_text one.now) result out.new }
+fn arm(out: &mut Writer, one: &StepArm) -> Result<(), AllocError>
+    ensures { OnOk result (out.new ≡ out.old ++ arm_text one.now) }
 {
     numbered_line(out, b"arm", one.items.len() as u64)?;
     all_items(out, one.items.as_slice())?;
     block(out, one.body.as_slice())
 }
 
-fn all_items(out: &mut Writer, items: &[StepItem]) -> Result<(), WriteFault>
-    ensures { Writes out.old (flat_map item_row items.now) result out.new }
+fn all_items(out: &mut Writer, items: &[StepItem]) -> Result<(), AllocError>
+    ensures { OnOk result (out.new ≡ out.old ++ flat_map item_row items.now) }
 {
     for one in items {
         item(out, one)?;
@@ -88,8 +88,8 @@ fn all_items(out: &mut Writer, items: &[StepItem]) -> Result<(), WriteFault>
     Ok(())
 }
 
-fn item(out: &mut Writer, one: &StepItem) -> Result<(), WriteFault>
-    ensures { Writes out.old (item_row one.now) result out.new }
+fn item(out: &mut Writer, one: &StepItem) -> Result<(), AllocError>
+    ensures { OnOk result (out.new ≡ out.old ++ item_row one.now) }
 {
     out.put(b"item")?;
     out.hex(one.mask)?;
@@ -97,16 +97,16 @@ fn item(out: &mut Writer, one: &StepItem) -> Result<(), WriteFault>
     out.end()
 }
 
-fn test_line(out: &mut Writer, test: &Typed) -> Result<(), WriteFault>
-    ensures { Writes out.old (row (codes "if") (tokens_of test.now)) result out.new }
+fn test_line(out: &mut Writer, test: &Typed) -> Result<(), AllocError>
+    ensures { OnOk result (out.new ≡ out.old ++ row (codes "if") (tokens_of test.now)) }
 {
     out.put(b"if")?;
     expression(out, test)?;
     out.end()
 }
 
-fn case_line(out: &mut Writer, arms: usize, on: &Typed) -> Result<(), WriteFault>
-    ensures { Writes out.old (row (codes "case") (number arms ∷ tokens_of on.now)) result out.new }
+fn case_line(out: &mut Writer, arms: usize, on: &Typed) -> Result<(), AllocError>
+    ensures { OnOk result (out.new ≡ out.old ++ row (codes "case") (number arms ∷ tokens_of on.now)) }
 {
     out.put(b"case")?;
     out.number(arms as u64)?;
@@ -114,8 +114,8 @@ fn case_line(out: &mut Writer, arms: usize, on: &Typed) -> Result<(), WriteFault
     out.end()
 }
 
-fn show_line(out: &mut Writer, pieces: &[Piece]) -> Result<(), WriteFault>
-    ensures { Writes out.old (row (codes "show") (number (length pieces.now) ∷ flat_map piece_tokens pieces.now)) result out.new }
+fn show_line(out: &mut Writer, pieces: &[Piece]) -> Result<(), AllocError>
+    ensures { OnOk result (out.new ≡ out.old ++ row (codes "show") (number (length pieces.now) ∷ flat_map piece_tokens pieces.now)) }
 {
     out.put(b"show")?;
     out.number(pieces.len() as u64)?;
@@ -124,8 +124,8 @@ fn show_line(out: &mut Writer, pieces: &[Piece]) -> Result<(), WriteFault>
 }
 
 /// A line of a word and a number.
-pub(crate) fn numbered_line(out: &mut Writer, name: &[u8], value: u64) -> Result<(), WriteFault>
-    ensures { Writes out.old (row name.now (number value ∷ [])) result out.new }
+pub(crate) fn numbered_line(out: &mut Writer, name: &[u8], value: u64) -> Result<(), AllocError>
+    ensures { OnOk result (out.new ≡ out.old ++ row name.now (number value ∷ [])) }
 {
     out.put(name)?;
     out.number(value)?;

@@ -1,22 +1,22 @@
-ghost use Rattle.std.specs.Prelude.{◌≡◌, [], ◌∷◌, ◌++◌, flat_map, if◌then◌else◌};
+ghost use Rattle.std.specs.Prelude.{◌≡◌, [], ◌∷◌, ◌++◌, flat_map, if◌then◌else◌, OnOk};
 ghost use Rattle.cvd_text.specs.Steps.{assigned_tokens};
 ghost use Rattle.cvd_text.specs.Targets.{piece_tokens, target_tokens};
 ghost use Rattle.cvd_text.specs.Tokens.{byte_text, digits};
-ghost use Rattle.cvd_write.specs.Writing.{Writes, spaced};
+ghost use Rattle.cvd_write.specs.Writing.{spaced};
 
 use crate::expression::{expression, headed, position};
-use crate::fault::WriteFault;
 use crate::word::sign_word;
 use crate::writer::{Writer, hex_digit};
 use design_tree::{Piece, Target, Typed};
+use std::alloc::AllocError;
 
 /// What a step assigns: the number of targets, the targets, and the value.
 pub(crate) fn assignment(
     out: &mut Writer,
     targets: &[Target],
     value: &Typed,
-) -> Result<(), WriteFault>
-    ensures { Writes out.old (spaced (assigned_tokens targets.now value.now) ++ 10 ∷ []) result out.new }
+) -> Result<(), AllocError>
+    ensures { OnOk result (out.new ≡ out.old ++ (spaced (assigned_tokens targets.now value.now) ++ 10 ∷ [])) }
 {
     out.number(targets.len() as u64)?;
     all_targets(out, targets)?;
@@ -25,8 +25,8 @@ pub(crate) fn assignment(
 }
 
 /// Targets, one behind the other.
-fn all_targets(out: &mut Writer, targets: &[Target]) -> Result<(), WriteFault>
-    ensures { Writes out.old (spaced (flat_map target_tokens targets.now)) result out.new }
+fn all_targets(out: &mut Writer, targets: &[Target]) -> Result<(), AllocError>
+    ensures { OnOk result (out.new ≡ out.old ++ spaced (flat_map target_tokens targets.now)) }
 {
     for one in targets {
         target(out, one)?;
@@ -34,8 +34,8 @@ fn all_targets(out: &mut Writer, targets: &[Target]) -> Result<(), WriteFault>
     Ok(())
 }
 
-fn target(out: &mut Writer, one: &Target) -> Result<(), WriteFault>
-    ensures { Writes out.old (spaced (target_tokens one.now)) result out.new }
+fn target(out: &mut Writer, one: &Target) -> Result<(), AllocError>
+    ensures { OnOk result (out.new ≡ out.old ++ spaced (target_tokens one.now)) }
 {
     match one {
         Target::Whole { var } => headed(out, b"w", *var as u64),
@@ -63,8 +63,8 @@ fn target(out: &mut Writer, one: &Target) -> Result<(), WriteFault>
 }
 
 /// Displayed pieces, one behind the other.
-pub(crate) fn all_pieces(out: &mut Writer, pieces: &[Piece]) -> Result<(), WriteFault>
-    ensures { Writes out.old (spaced (flat_map piece_tokens pieces.now)) result out.new }
+pub(crate) fn all_pieces(out: &mut Writer, pieces: &[Piece]) -> Result<(), AllocError>
+    ensures { OnOk result (out.new ≡ out.old ++ spaced (flat_map piece_tokens pieces.now)) }
 {
     for one in pieces {
         piece(out, one)?;
@@ -72,8 +72,8 @@ pub(crate) fn all_pieces(out: &mut Writer, pieces: &[Piece]) -> Result<(), Write
     Ok(())
 }
 
-fn piece(out: &mut Writer, one: &Piece) -> Result<(), WriteFault>
-    ensures { Writes out.old (spaced (piece_tokens one.now)) result out.new }
+fn piece(out: &mut Writer, one: &Piece) -> Result<(), AllocError>
+    ensures { OnOk result (out.new ≡ out.old ++ spaced (piece_tokens one.now)) }
 {
     match one {
         Piece::Text(bytes) => {
@@ -107,15 +107,15 @@ fn letter(short: bool, long_form: &'static [u8], short_form: &'static [u8]) -> &
 }
 
 /// The bytes of a text behind a blank, two hexadecimal digits each.
-fn text(out: &mut Writer, bytes: &[u8]) -> Result<(), WriteFault>
-    ensures { Writes out.old (spaced (digits bytes.now ∷ [])) result out.new }
+fn text(out: &mut Writer, bytes: &[u8]) -> Result<(), AllocError>
+    ensures { OnOk result (out.new ≡ out.old ++ spaced (digits bytes.now ∷ [])) }
 {
     out.put(b" ")?;
     all_bytes(out, bytes)
 }
 
-fn all_bytes(out: &mut Writer, bytes: &[u8]) -> Result<(), WriteFault>
-    ensures { Writes out.old (flat_map byte_text bytes.now) result out.new }
+fn all_bytes(out: &mut Writer, bytes: &[u8]) -> Result<(), AllocError>
+    ensures { OnOk result (out.new ≡ out.old ++ flat_map byte_text bytes.now) }
 {
     for one in bytes {
         byte(out, *one)?;
@@ -123,8 +123,8 @@ fn all_bytes(out: &mut Writer, bytes: &[u8]) -> Result<(), WriteFault>
     Ok(())
 }
 
-fn byte(out: &mut Writer, value: u8) -> Result<(), WriteFault>
-    ensures { Writes out.old (byte_text value) result out.new }
+fn byte(out: &mut Writer, value: u8) -> Result<(), AllocError>
+    ensures { OnOk result (out.new ≡ out.old ++ byte_text value) }
 {
     out.put(&[hex_digit(value / 16), hex_digit(value % 16)])
 }

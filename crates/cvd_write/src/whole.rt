@@ -30,6 +30,7 @@ fn written(alloc: Global, design: &Instrumented) -> Result<ByteText, WriteFault>
 {
     let mut out = Writer::new(alloc);
     whole(&mut out, design)?;
+    out.within()?;
     Ok(out.into_text())
 }
 
@@ -65,5 +66,6 @@ fn back(out: &mut Writer, design: &Instrumented) -> Result<(), WriteFault>
     processes(out, design.design.processes.as_slice())?;
     toggles(out, design.toggles.as_slice())?;
     points(out, design.points.as_slice())?;
-    line(out, b"end")
+    line(out, b"end")?;
+    Ok(())
 }

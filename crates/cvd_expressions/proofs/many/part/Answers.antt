@@ -1,8 +1,5 @@
-use Rattle.std.proofs.Common.{refl, sym, ◌∙◌, subst, arith}
-use Rattle.design_tree.specs.declared.typed.Typed.TheVariants as e
-use Rattle.cvd_nodes.specs.Trees.{index}
-use Rattle.cvd_expressions.specs.Builds.{Builds}
-use Rattle.cvd_expressions.proofs.Parts.{none_of, operand, typed_part, width_part, depth_part}
+use Rattle.std.proofs.Common.{refl, sym, ◌∙◌, arith}
+use Rattle.cvd_expressions.proofs.Parts.{none_of, tells, operand, typed_part, width_part, depth_part}
 use Rattle.cvd_expressions.proofs.many.part.Goals as goal
 
 pub returns-then-not-is_width : goal.returns-then-not-is_width
@@ -12,14 +9,15 @@ returns-then-not-is_width c = λ d h k.
     ∙ c.if-not-is_width.true)
 
 pub returns : goal.returns
-returns c = λ d h k.
+returns c =
     let w = c.args.width in
     let low = c.args.low in
-    let x = c.in_ok-of.of in
-    let y = c.in_ok-value.value in
-    let o = operand d c.args.of h x c.in_ok-of.ensures in
-    let p = operand d c.args.value k y c.in_ok-value.ensures in
-    subst (λ a. Builds d (e.Part w a (index low c.args.signed c.args.value.tree)) c.finished.result) c.in_ok-of.ensures
-    (subst (λ b. Builds d (e.Part w x (index low c.args.signed b)) c.finished.result) c.in_ok-value.ensures
-    (c.finished.ensures d (typed_part d w low c.args.signed x y _ _ _ _ o p (omega arith) ∙ sym c.is_width.ensures ∙ c.if-not-is_width.false)
-    (width_part d w low c.args.signed x y) (c.above.ensures ∙ depth_part d w low c.args.signed x y _ _ _ _ o p)))
+    let x = c.args.of.tree in
+    let y = c.args.value.tree in
+    tells c.finished.result _ _
+    (λ held f. λ d h k.
+    let o = operand d c.args.of h x refl in
+    let p = operand d c.args.value k y refl in
+    f d (typed_part d w low c.args.signed x y _ _ _ _ o p (omega arith) ∙ sym c.is_width.ensures ∙ c.if-not-is_width.false)
+    (width_part d w low c.args.signed x y) (c.above.ensures ∙ depth_part d w low c.args.signed x y _ _ _ _ o p))
+    c.finished.ensures

@@ -144,7 +144,8 @@ tested-returns t c =
       (
         tested_takes around before at a.0 (load_of x.sums) a.1.1.sums_are.load_is c.args.cursor.now c.test_line.new.cursor a.1.0 b.0 (load_of y.sums)
             b.1.1.sums_are.load_is c.block.new.cursor b.1.0 _ e.0 e.1.0,
-        if_held around before at a.0.0 b.0 e.0 x y c.in_ok-no.no a.1.1 b.1.1 e.1.1,
+        if_held around before at a.0.0 b.0 e.0 (record { test = c.into_inner.result; sums = x.sums }) y c.in_ok-no.no
+            (record { test_is = c.into_inner.ensures ∙ a.1.1.test_is; sums_are = a.1.1.sums_are }) b.1.1 e.1.1,
       ),
     )
 
@@ -196,7 +197,9 @@ chosen-returns t c =
       (
         chosen_takes around before at a.0 (load_of x.sums) held.sums_are.load_is x.width held.width_is c.args.cursor.now c.case_line.new.cursor a.1.0 b.0
             (load_of y.sums) b.1.1.sums_are.load_is c.all_arms.new.cursor b.1.0 _ e.0 e.1.0,
-        case_held around before at a.0.0 a.1.1.0 a.0.1.0 b.0.items e.0 x y c.in_ok-rest.rest held b.1.1 e.1.1,
+        case_held around before at a.0.0 a.1.1.0 a.0.1.0 b.0.items e.0
+            (record { on = c.into_inner.result; width = x.width; turns = x.turns; sums = x.sums }) y c.in_ok-rest.rest
+            (record { on_is = c.into_inner.ensures ∙ held.on_is; width_is = held.width_is; turns_are = held.turns_are; sums_are = held.sums_are }) b.1.1 e.1.1,
       ),
     )
 

@@ -18,7 +18,8 @@ pub returns-in_err-expect-clause-reads : goal.returns-in_err-expect-clause-reads
 returns-in_err-expect-clause-reads c =
     let before = load_of c.args.sums in
     let p = err_from_is_err_and c.from_residual.result c.from_residual.ensures.1 in
-    rw (p.1, p.2) (refused_value (Unit {0}) Begun (marks (this_word (codes "begin"))) (λ u. stands before (begin_line c.args.deep)) (begin_marks before c.args.deep)
+    rw (p.1, p.2) (refused_value (Unit {0}) Begun (marks (this_word (codes "begin"))) (λ u. stands before (begin_line c.args.deep))
+    (begin_marks before c.args.deep)
     (λ u. (u, tt)) (λ q. q.0) (λ q. refl) (λ u. refl) (apart_word (codes "begin")) c.args.cursor.now _ _ c.in_err-expect.ensures)
 
 pub returns-in_err-end_line-clause-reads : goal.returns-in_err-end_line-clause-reads

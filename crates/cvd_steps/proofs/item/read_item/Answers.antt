@@ -131,7 +131,8 @@ returns c =
             (λ q. item_of q.1.0 q.1.1) (λ i. (tt, (i.mask, i.value))) (λ i. refl) (λ q. refl) apart_item_value (a.0, (m.0, v.0)) _ flag
             c.args.cursor.now c.read_expression.new.cursor _ all r.1.0,
         record {
-          item_is = ap (λ k. item_of k x.tree) (masked (2 ^ 128) m.0 c.in-Some.mask (sym c.in-Some.is ∙ m.1.1)) ∙ ap (item_of m.0) h.tree_is;
+          item_is = ap (λ k. item_of k c.into_inner.result) (masked (2 ^ 128) m.0 c.in-Some.mask (sym c.in-Some.is ∙ m.1.1))
+              ∙ ap (item_of m.0) (c.into_inner.ensures ∙ h.tree_is);
           sums_are = subst (λ n. AreSums (added before (own_load 0 n 0)) c.in_ok-sums.sums) h.nodes_are r.1.1;
         },
       ),

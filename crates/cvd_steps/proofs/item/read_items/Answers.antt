@@ -29,7 +29,8 @@ returns-in_err-next c = λ n bytes are most.
     let p = err_from_is_err_and c.from_residual.result c.from_residual.ensures.1 in
     rw (p.1, p.2) (stopped StepItem Load (each_lines lines) (each_load lines) (λ s. apart_item around c.args.width s) some_item
     (Kept lines before l.items l.sums) before c.args.cursor.now l.cursor _ _ c.args.turns l.left n bytes g (omega arith) are
-    (subst (λ b. Refused (item_marks around c.args.width b) l.cursor c.in_err-next.field-0.0 c.read_item.new.cursor) g.held.sums_are.load_is c.in_err-next.ensures))
+    (subst (λ b. Refused (item_marks around c.args.width b) l.cursor c.in_err-next.field-0.0 c.read_item.new.cursor) g.held.sums_are.load_is
+    c.in_err-next.ensures))
 
 pub loop-left-preserved : goal.loop-left-preserved
 loop-left-preserved c =

@@ -31,7 +31,8 @@ returns-in_err-count-clause-reads c = λ at e.
     let p = err_from_is_err_and c.from_residual.result c.from_residual.ensures.1 in
     rw (p.1, p.2) (refused_value Counted Choice counted_value (λ q. stands before (case_line around at q.0 q.1)) (case_marks around before at)
     (λ q. (q.0, (q.1, tt))) (λ q. (q.0, q.1.0)) (λ q. refl) (λ t. refl) apart_counted_value c.args.cursor.now _ _
-    (refused_first ℕ (λ n. Typed) (marks number_tokens) (λ n. marks tokens_of) apart_number (λ n. some_expression) c.args.cursor.now _ _ c.in_err-count.ensures))
+    (refused_first ℕ (λ n. Typed) (marks number_tokens) (λ n. marks tokens_of) apart_number (λ n. some_expression) c.args.cursor.now _ _
+    c.in_err-count.ensures))
 
 pub returns-in_err-held-clause-reads : goal.returns-in_err-held-clause-reads
 returns-in_err-held-clause-reads c = λ at e.

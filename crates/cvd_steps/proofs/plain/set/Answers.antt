@@ -1,4 +1,4 @@
-use Rattle.std.proofs.Common.{codes}
+use Rattle.std.proofs.Common.{codes, ◌∙◌}
 use Rattle.std.proofs.lemmas.Result.{err_from_is_err_and}
 use Rattle.cvd_text.specs.Steps.{spot, sets}
 use Rattle.cvd_steps.specs.Bodies.{around_of, load_of}
@@ -14,4 +14,13 @@ pub returns : goal.returns
 returns c =
     let at = spot c.args.place.deep c.args.place.before in
     let r = c.in_ok-line.ensures at sets (codes "set") c.may_set-allowed.ensures in
-    (r.0, (r.1.0, set_held (around_of c.args.vars.now c.args.process) (load_of c.args.sums) at r.0.1.0.items r.0.1.1.0 c.in_ok-line.line r.1.1))
+    let line = c.in_ok-line.line in
+    let is = r.1.1 in (
+      r.0,
+      (
+        r.1.0,
+        set_held (around_of c.args.vars.now c.args.process) (load_of c.args.sums) at r.0.1.0.items r.0.1.1.0
+            (record { targets = line.targets; value = c.into_inner.result; sums = line.sums })
+            (record { targets_are = is.targets_are; value_is = c.into_inner.ensures ∙ is.value_is; sums_are = is.sums_are }),
+      ),
+    )

@@ -11,14 +11,16 @@ use Rattle.cvd_targets.proofs.pieces.more_pieces.Goals as goal
 
 pub loop-left-init : goal.loop-left-init
 loop-left-init c =
-    at_first Piece (Unit {0}) (each_tokens piece_tokens) unchanged (λ xs. SoFar (with_vars c.args.vars.now) xs true (record { items = c.new.result; nodes = 0; shown = 0 })) tt c.args.cursor.now c.args.turns
+    at_first Piece (Unit {0}) (each_tokens piece_tokens) unchanged
+    (λ xs. SoFar (with_vars c.args.vars.now) xs true (record { items = c.new.result; nodes = 0; shown = 0 })) tt c.args.cursor.now c.args.turns
     (none_yet (with_vars c.args.vars.now) _ c.new.ensures)
 
 pub returns-in_err-one : goal.returns-in_err-one
 returns-in_err-one c = λ n bytes are most.
     let l = c.loop-left in
     let p = err_from_is_err_and c.from_residual.result c.from_residual.ensures.1 in
-    rw (p.1, p.2) (stopped Piece (Unit {0}) (each_tokens piece_tokens) unchanged (λ u. apart_pieces) some_piece (λ xs. SoFar (with_vars c.args.vars.now) xs l.whole l.kept) tt c.args.cursor.now
+    rw (p.1, p.2) (stopped Piece (Unit {0}) (each_tokens piece_tokens) unchanged (λ u. apart_pieces) some_piece
+    (λ xs. SoFar (with_vars c.args.vars.now) xs l.whole l.kept) tt c.args.cursor.now
     l.cursor _ _ c.args.turns l.left n bytes l.invariant (omega arith) are c.in_err-one.ensures)
 
 pub loop-left-preserved : goal.loop-left-preserved
@@ -26,7 +28,8 @@ loop-left-preserved c =
     let l = c.loop-left in
     let a = c.in_ok-one.ensures in
     goes_on Piece (Unit {0}) (each_tokens piece_tokens) unchanged (λ xs. SoFar (with_vars c.args.vars.now) xs l.whole l.kept)
-    (λ xs. SoFar (with_vars c.args.vars.now) xs c.in_ok-whole.whole c.keep.new.kept) tt c.args.cursor.now l.cursor _ c.args.turns l.left (l.left - 1) l.invariant a.0 a.1.0 (omega arith)
+    (λ xs. SoFar (with_vars c.args.vars.now) xs c.in_ok-whole.whole c.keep.new.kept) tt c.args.cursor.now l.cursor _ c.args.turns l.left (l.left - 1)
+    l.invariant a.0 a.1.0 (omega arith)
     (c.in_ok-whole.ensures (with_vars c.args.vars.now) l.invariant.items a.0 l.invariant.held a.1.1)
 
 pub returns-then-whole : goal.returns-then-whole

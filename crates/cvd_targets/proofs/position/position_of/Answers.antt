@@ -17,7 +17,7 @@ returns c = λ d l tree e h.
     let b = below_some (2 ^ 32) l low (sym c.in-Some.is ∙ e) in
     let x = subst (ExpressionIn d tree) c.in-Some-value.is h in
     record {
-      at_is = ap (λ y. index low c.args.signed y) (c.in_ok-value.ensures ∙ x.tree_is) ∙ ap (λ n. index n c.args.signed tree) b.1;
+      at_is = ap (λ y. index low c.args.signed y) x.tree_is ∙ ap (λ n. index n c.args.signed tree) b.1;
       nodes_are = x.nodes_are;
       stands = both _ _ (number_stands l b.0) x.stands;
     }

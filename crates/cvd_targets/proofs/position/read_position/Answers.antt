@@ -30,7 +30,7 @@ returns c =
       (a.0, b.0),
       (
         takes_both Low (λ l. Typed) low_marks (λ l. marks tokens_of) c.args.cursor.now _ _ a.0 b.0 a.1.0 b.1.0,
-        subst (λ s. PositionIn d ((a.0.0, s), b.0) c.in_ok-held.held) a.1.1.1
-            (c.in_ok-held.ensures d a.0.0 b.0 a.1.1.0 (expression_in c.args.vars.now b.0 c.in_ok-value.value b.1.1)),
+        subst (λ s. PositionIn d ((a.0.0, s), b.0) c.position_of.result) a.1.1.1
+            (c.position_of.ensures d a.0.0 b.0 a.1.1.0 (expression_in c.args.vars.now b.0 c.in_ok-value.value b.1.1)),
       ),
     )

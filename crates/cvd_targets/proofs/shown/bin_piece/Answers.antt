@@ -11,7 +11,8 @@ use Rattle.cvd_targets.proofs.shown.bin_piece.Goals as goal
 pub returns : goal.returns
 returns c = λ d e h.
     let x = subst (ExpressionIn d e) c.in-Some.is h in
-    subst (λ t. PieceIn d (piece.Bin c.args.short t) c.finished.result) x.tree_is
-    (c.finished.ensures d (ap (λ t. is_piece d (piece.Bin c.args.short t)) x.tree_is ∙ value_is d e c.in-Some.value x)
-    (x.nodes_are ∙ sym (ap nodes x.tree_is)) (omega (arith, value_few d e c.in-Some.value x, ap nodes x.tree_is))
-    (x.width_is ∙ sym (ap (width_of d) x.tree_is)))
+    let is = c.into_inner.ensures ∙ x.tree_is in
+    subst (λ t. PieceIn d (piece.Bin c.args.short t) c.finished.result) is
+    (c.finished.ensures d (ap (λ t. is_piece d (piece.Bin c.args.short t)) is ∙ value_is d e c.in-Some.value x)
+    (x.nodes_are ∙ sym (ap nodes is)) (omega (arith, value_few d e c.in-Some.value x, ap nodes is))
+    (x.width_is ∙ sym (ap (width_of d) is)))

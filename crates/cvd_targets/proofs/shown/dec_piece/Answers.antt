@@ -21,8 +21,9 @@ returns-then-not-is_width c = λ d e v h.
 pub returns : goal.returns
 returns c = λ d e v h.
     let x = subst (ExpressionIn d e) c.in-Some.is h in
-    subst (λ t. PieceIn d (piece.Dec c.args.signed c.args.short t) c.finished.result) x.tree_is
-    (c.finished.ensures d (ap (λ t. is_piece d (piece.Dec c.args.signed c.args.short t)) x.tree_is ∙ value_is d e c.in-Some.value x)
-    (x.nodes_are ∙ sym (ap nodes x.tree_is)) (omega (arith, value_few d e c.in-Some.value x, ap nodes x.tree_is))
-    (dec_columns d c.in-Some.value.tree c.in-Some.value.width _ c.args.signed c.args.short (x.width_is
-    ∙ sym (ap (width_of d) x.tree_is)) c.columns_of-shown.ensures))
+    let is = c.into_inner.ensures ∙ x.tree_is in
+    subst (λ t. PieceIn d (piece.Dec c.args.signed c.args.short t) c.finished.result) is
+    (c.finished.ensures d (ap (λ t. is_piece d (piece.Dec c.args.signed c.args.short t)) is ∙ value_is d e c.in-Some.value x)
+    (x.nodes_are ∙ sym (ap nodes is)) (omega (arith, value_few d e c.in-Some.value x, ap nodes is))
+    (dec_columns d c.into_inner.result c.in-Some.value.width _ c.args.signed c.args.short (x.width_is
+    ∙ sym (ap (width_of d) is)) c.columns_of-shown.ensures))

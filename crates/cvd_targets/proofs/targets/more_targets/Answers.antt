@@ -11,14 +11,16 @@ use Rattle.cvd_targets.proofs.targets.more_targets.Goals as goal
 
 pub loop-left-init : goal.loop-left-init
 loop-left-init c =
-    at_first Target (Unit {0}) (each_tokens target_tokens) unchanged (λ xs. SoFar (with_vars c.args.vars.now) c.args.kind xs true (record { items = c.new.result; width = 0; nodes = 0 })) tt c.args.cursor.now c.args.turns
+    at_first Target (Unit {0}) (each_tokens target_tokens) unchanged
+    (λ xs. SoFar (with_vars c.args.vars.now) c.args.kind xs true (record { items = c.new.result; width = 0; nodes = 0 })) tt c.args.cursor.now c.args.turns
     (none_yet (with_vars c.args.vars.now) c.args.kind _ c.new.ensures)
 
 pub returns-in_err-one : goal.returns-in_err-one
 returns-in_err-one c = λ n bytes are most.
     let l = c.loop-left in
     let p = err_from_is_err_and c.from_residual.result c.from_residual.ensures.1 in
-    rw (p.1, p.2) (stopped Target (Unit {0}) (each_tokens target_tokens) unchanged (λ u. apart_targets) some_target (λ xs. SoFar (with_vars c.args.vars.now) c.args.kind xs l.whole l.kept) tt c.args.cursor.now
+    rw (p.1, p.2) (stopped Target (Unit {0}) (each_tokens target_tokens) unchanged (λ u. apart_targets) some_target
+    (λ xs. SoFar (with_vars c.args.vars.now) c.args.kind xs l.whole l.kept) tt c.args.cursor.now
     l.cursor _ _ c.args.turns l.left n bytes l.invariant (omega arith) are c.in_err-one.ensures)
 
 pub loop-left-preserved : goal.loop-left-preserved
@@ -26,7 +28,8 @@ loop-left-preserved c =
     let l = c.loop-left in
     let a = c.in_ok-one.ensures in
     goes_on Target (Unit {0}) (each_tokens target_tokens) unchanged (λ xs. SoFar (with_vars c.args.vars.now) c.args.kind xs l.whole l.kept)
-    (λ xs. SoFar (with_vars c.args.vars.now) c.args.kind xs c.in_ok-whole.whole c.keep.new.kept) tt c.args.cursor.now l.cursor _ c.args.turns l.left (l.left - 1) l.invariant a.0 a.1.0 (omega arith)
+    (λ xs. SoFar (with_vars c.args.vars.now) c.args.kind xs c.in_ok-whole.whole c.keep.new.kept) tt c.args.cursor.now l.cursor _ c.args.turns l.left
+    (l.left - 1) l.invariant a.0 a.1.0 (omega arith)
     (c.in_ok-whole.ensures (with_vars c.args.vars.now) c.args.kind l.invariant.items a.0 l.invariant.held a.1.1)
 
 pub returns-then-whole : goal.returns-then-whole

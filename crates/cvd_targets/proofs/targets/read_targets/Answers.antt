@@ -14,7 +14,8 @@ use Rattle.cvd_targets.proofs.targets.read_targets.Goals as goal
 pub returns-in_err-count : goal.returns-in_err-count
 returns-in_err-count c =
     let p = err_from_is_err_and c.from_residual.result c.from_residual.ensures.1 in
-    rw (p.1, p.2) (refused_first ℕ (Many Target) (marks number_tokens) targets_marks apart_number (some_many some_target) c.args.cursor.now _ _ c.in_err-count.ensures)
+    rw (p.1, p.2) (refused_first ℕ (Many Target) (marks number_tokens) targets_marks apart_number (some_many some_target) c.args.cursor.now _ _
+    c.in_err-count.ensures)
 
 pub returns-in_err-held : goal.returns-in_err-held
 returns-in_err-held c =
