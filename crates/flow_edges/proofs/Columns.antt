@@ -97,29 +97,29 @@ module _ (d : Design) (us : List Uses) (o : Owners) (l : Links) (selfish : List 
   may p q settled h = elim h [ inl apart ↦ inl apart | inr mine ↦ inr (sym (own.each p (settles_below d p settled)) ∙ mine) ]
 
   -- a column that p drives and q reads
-  column_leads : (p q c : ℕ) → Through (next_of o.columns.items c) (next_of l.readers.items c) selfish p q → Leads d p q
+  column_leads : (p q c : ℕ) → Through (next_of o.columns c) (next_of l.readers c) selfish p q → Leads d p q
   column_leads p q c t =
       let r : Reading d (ReadsSpan d us) c q = links.readers_only c q t.1 in
       let i : IsSpanOf d.vars r.0 = span_at q r.0 r.1 in
       let by : DrivesIn d p r.0 = by_column d o owners r.0 i q r.2 p c r.3 t.0 in
       leads_by d (get_or us q no_uses) q p r.0 r.1.0 (uses_at q r.1.0) (may p q by.settled.kind t.2) r.1.1 by
 
-  to_leads : (n p q : ℕ) → LeadsBy l.next.items o.columns.items l.readers.items selfish n p q → Leads d p q
+  to_leads : (n p q : ℕ) → LeadsBy l.next.items o.columns l.readers selfish n p q → Leads d p q
   to_leads n p q e = elim e [ inl h ↦ next_leads p q h | inr t ↦ column_leads p q t.0 t.2 ]
 
-  from_leads : (p q : ℕ) → Leads d p q → LeadsBy l.next.items o.columns.items l.readers.items selfish (length o.columns.items) p q
+  from_leads : (p q : ℕ) → Leads d p q → LeadsBy l.next.items o.columns l.readers selfish (length o.columns) p q
   from_leads p q h =
       let m : Meeting d (get_or us q no_uses) p = meets_at d (get_or us q no_uses) q p (uses_at q h.to) h in
       elim (cases_eq m.span.word_end (m.span.word + 1)) [
         | inl one ↦ inl (links.next_there p q (h.apart, m.span, (h.to, m.stands), one, m.by))
         | inr many ↦ (
             let c : ℕ = column_number (slots_of d) m.by.bit.var m.by.bit.place in
-            let drives : HasEdge o.columns.items c p = owners.to_column m.by.bit p m.by.here m.by.settled in
-            let reads : HasEdge l.readers.items c q = links.readers_there c q
+            let drives : HasEdge o.columns c p = owners.to_column m.by.bit p m.by.here m.by.settled in
+            let reads : HasEdge l.readers c q = links.readers_there c q
             (m.span, (h.to, m.stands), many, among_columns (slots_of d) m.span m.by.bit m.by.within) in
             inr (
               c,
-              edge_inside o.columns.items c p drives,
+              edge_inside o.columns c p drives,
               (
                 drives,
                 reads,
@@ -132,14 +132,14 @@ module _ (d : Design) (us : List Uses) (o : Owners) (l : Links) (selfish : List 
       ]
 
   pub columns_lead : (g : Graph)
-      → Stands (length d.processes) (LeadsBy l.next.items o.columns.items l.readers.items selfish (length o.columns.items)) g
+      → Stands (length d.processes) (LeadsBy l.next.items o.columns l.readers selfish (length o.columns)) g
       → Stands (length d.processes) (Leads d) g
   columns_lead g s = stands_as (length d.processes)
-      (LeadsBy l.next.items o.columns.items l.readers.items selfish (length o.columns.items)) (Leads d) g s (to_leads (length o.columns.items)) from_leads
+      (LeadsBy l.next.items o.columns l.readers selfish (length o.columns)) (Leads d) g s (to_leads (length o.columns)) from_leads
 
   pub next_below : (i x : ℕ) → HasEdge l.next.items i x → x < length l.next.items
   next_below i x h =
       let lt : x < length d.processes = settles_below d x (next_leads i x h).to in omega (arith, lt, links.sized.next)
 
-  pub readers_below : (i x : ℕ) → HasEdge l.readers.items i x → x < length d.processes
+  pub readers_below : (i x : ℕ) → HasEdge l.readers i x → x < length d.processes
   readers_below i x h = let r : Reading d (ReadsSpan d us) i x = links.readers_only i x h in settles_below d x r.1.0

@@ -22,7 +22,7 @@ module _ (d : Design) where
   pub grows_none : (l : Links) (S : ℕ → Span → Type 0) → ((x : ℕ) (s : Span) → S x s → ⊥) → Grows d l l S
   grows_none l S none = record {
     next = adds_none l.next.items (Direct d S) (λ i x r. none x r.1 r.2);
-    readers = adds_none l.readers.items (Reading d S) (λ i x r. none x r.0 r.1);
+    readers = adds_none l.readers (Reading d S) (λ i x r. none x r.0 r.1);
   }
 
   pub grows_more : (a b c : Links) (R S T : ℕ → Span → Type 0) → Grows d a b R → Grows d b c S
@@ -31,7 +31,7 @@ module _ (d : Design) where
     next = adds_more a.next.items b.next.items c.next.items (Direct d R) (Direct d S) (Direct d T) first.next then.next
         (λ i x r. (r.0, r.1, from_first x r.1 r.2, r.3, r.4)) (λ i x r. (r.0, r.1, from_then x r.1 r.2, r.3, r.4))
         (λ i x t. elim (either x t.1 t.2) [ inl e ↦ inl (t.0, t.1, e, t.3, t.4) | inr e ↦ inr (t.0, t.1, e, t.3, t.4) ]);
-    readers = adds_more a.readers.items b.readers.items c.readers.items (Reading d R) (Reading d S) (Reading d T) first.readers then.readers
+    readers = adds_more a.readers b.readers c.readers (Reading d R) (Reading d S) (Reading d T) first.readers then.readers
         (λ i x r. (r.0, from_first x r.0 r.1, r.2, r.3)) (λ i x r. (r.0, from_then x r.0 r.1, r.2, r.3))
         (λ i x t. elim (either x t.0 t.1) [ inl e ↦ inl (t.0, e, t.2, t.3) | inr e ↦ inr (t.0, e, t.2, t.3) ]);
   }
@@ -41,7 +41,7 @@ module _ (d : Design) where
   grows_as a b R T h to from = record {
     next = adds_as a.next.items b.next.items (Direct d R) (Direct d T) h.next
         (λ i x r. (r.0, r.1, to x r.1 r.2, r.3, r.4)) (λ i x r. (r.0, r.1, from x r.1 r.2, r.3, r.4));
-    readers = adds_as a.readers.items b.readers.items (Reading d R) (Reading d T) h.readers
+    readers = adds_as a.readers b.readers (Reading d R) (Reading d T) h.readers
         (λ i x r. (r.0, to x r.0 r.1, r.2, r.3)) (λ i x r. (r.0, from x r.0 r.1, r.2, r.3));
   }
 
@@ -54,21 +54,21 @@ module _ (d : Design) where
     abbrev One : ℕ → Span → Type 0
     One x s = (x ≡ q) × (s ≡ span)
 
-    pub grows_word : IsOfWord span → b.readers.items ≡ a.readers.items → Adds a.next.items b.next.items (OfSpan d span q) → Grows d a b One
+    pub grows_word : IsOfWord span → b.readers ≡ a.readers → Adds a.next.items b.next.items (OfSpan d span q) → Grows d a b One
     grows_word one same h = record {
       next = adds_as a.next.items b.next.items (OfSpan d span q) (Direct d One) h
           (λ i x r. (r.1, span, (r.0, refl), one, r.2))
           (λ i x t. (t.2.0, t.0, subst (DrivesIn d i) t.2.1 t.4));
-      readers = subst (λ (g : Graph). Adds a.readers.items g (Reading d One)) (sym same)
-          (adds_none a.readers.items (Reading d One) (λ i x r. r.2 (subst IsOfWord (sym r.1.1) one)));
+      readers = subst (λ (g : Graph). Adds a.readers g (Reading d One)) (sym same)
+          (adds_none a.readers (Reading d One) (λ i x r. r.2 (subst IsOfWord (sym r.1.1) one)));
     }
 
     pub grows_all : (IsOfWord span → ⊥) → b.next.items ≡ a.next.items
-        → Adds a.readers.items b.readers.items (λ i x. IsAmong (columns_of (slots_of d) span) i × (x ≡ q)) → Grows d a b One
+        → Adds a.readers b.readers (λ i x. IsAmong (columns_of (slots_of d) span) i × (x ≡ q)) → Grows d a b One
     grows_all many same h = record {
       next = subst (λ (g : Graph). Adds a.next.items g (Direct d One)) (sym same)
           (adds_none a.next.items (Direct d One) (λ i x r. many (subst IsOfWord r.2.1 r.3)));
-      readers = adds_as a.readers.items b.readers.items (λ i x. IsAmong (columns_of (slots_of d) span) i × (x ≡ q)) (Reading d One) h
+      readers = adds_as a.readers b.readers (λ i x. IsAmong (columns_of (slots_of d) span) i × (x ≡ q)) (Reading d One) h
           (λ i x r. (span, (r.1, refl), many, r.0))
           (λ i x t. (subst (λ (s : Span). IsAmong (columns_of (slots_of d) s) i) t.1.1 t.3, t.1.0));
     }
@@ -108,7 +108,7 @@ module _ (d : Design) where
       ])
 
   pub all_read : (us : List Uses) (a l : Links) (n : ℕ) → length d.processes ≤ n → AreSized d a → ((i x : ℕ) → HasEdge a.next.items i x → ⊥)
-      → ((i x : ℕ) → HasEdge a.readers.items i x → ⊥) → Grows d a l (ReadBelow us n) → AreLinks d us l
+      → ((i x : ℕ) → HasEdge a.readers i x → ⊥) → Grows d a l (ReadBelow us n) → AreLinks d us l
   all_read us a l n end sized none unread g = record {
     sized = still_sized a l (ReadBelow us n) sized g;
     next_only = λ p q h. elim (g.next.only p q h) [ inl old ↦ absurd (none p q old) | inr r ↦ (r.0, r.1, r.2.1, r.3, r.4) ];

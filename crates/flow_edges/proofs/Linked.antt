@@ -110,7 +110,7 @@ module _ (d : Design) (o : Owners) (owners : AreOwners d o) (s : Span) (i : IsSp
 
   -- a span of one word
   module _ (one : IsOfWord s) where
-    by_bit : (p at : ℕ) → IsAmong (bits_of (slots_of d) s) at → HasEdge o.bits.items at p → DrivesIn d p s
+    by_bit : (p at : ℕ) → IsAmong (bits_of (slots_of d) s) at → HasEdge o.bits at p → DrivesIn d p s
     by_bit p at a h =
         let b : (b : Bit) × IsIn (slots_of d) b × (is_in s b ≡ true) × (number (slots_of d) b ≡ at) = bit_with (slots_of d) s at in_slots one a in
         let here : IsBitOf d b.0 = bit_from d.vars b.0 b.1 in
@@ -118,10 +118,10 @@ module _ (d : Design) (o : Owners) (owners : AreOwners d o) (s : Span) (i : IsSp
           bit = b.0;
           here = here;
           within = b.2;
-          settled = owners.from_bit b.0 p here (subst (λ j. HasEdge o.bits.items j p) (sym b.3) h);
+          settled = owners.from_bit b.0 p here (subst (λ j. HasEdge o.bits j p) (sym b.3) h);
         }
 
-    by_whole : (p at : ℕ) → IsAmong (columns_of (slots_of d) s) at → HasEdge o.whole.items at p → DrivesIn d p s
+    by_whole : (p at : ℕ) → IsAmong (columns_of (slots_of d) s) at → HasEdge o.whole at p → DrivesIn d p s
     by_whole p at a h =
         let k : (c : ℕ) × (s.place ≤ c) × (c < s.place_end) × (column_number (slots_of d) s.var c ≡ at) = column_with (slots_of d) s at a in
         let here : IsBitOf d (bit_of s.var s.word k.0) = place_here s.word k.0 (omega (arith, i.some_word, i.of_words)) k.2 in
@@ -129,13 +129,13 @@ module _ (d : Design) (o : Owners) (owners : AreOwners d o) (s : Span) (i : IsSp
           bit = bit_of s.var s.word k.0;
           here = here;
           within = is_within s s.word k.0 (omega arith) i.some_word k.1 k.2;
-          settled = owners.from_whole (bit_of s.var s.word k.0) p here (subst (λ j. HasEdge o.whole.items j p) (sym k.3) h);
+          settled = owners.from_whole (bit_of s.var s.word k.0) p here (subst (λ j. HasEdge o.whole j p) (sym k.3) h);
         }
 
-    pub span_word : (a b c : Graph) → Adds a b (OfRows d o.bits.items (bits_of (slots_of d) s) q)
-        → Adds b c (OfRows d o.whole.items (columns_of (slots_of d) s) q) → Adds a c (OfSpan d s q)
+    pub span_word : (a b c : Graph) → Adds a b (OfRows d o.bits (bits_of (slots_of d) s) q)
+        → Adds b c (OfRows d o.whole (columns_of (slots_of d) s) q) → Adds a c (OfSpan d s q)
     span_word a b c first then =
-        adds_more a b c (OfRows d o.bits.items (bits_of (slots_of d) s) q) (OfRows d o.whole.items (columns_of (slots_of d) s) q) (OfSpan d s q) first then
+        adds_more a b c (OfRows d o.bits (bits_of (slots_of d) s) q) (OfRows d o.whole (columns_of (slots_of d) s) q) (OfSpan d s q) first then
         (λ p x r. (r.0, r.1, by_bit p r.2 r.3 r.4))
         (λ p x r. (r.0, r.1, by_whole p r.2 r.3 r.4))
         (λ p x t. elim (owners.to_bit t.2.bit p t.2.here t.2.settled) [
@@ -148,11 +148,11 @@ module _ (d : Design) (o : Owners) (owners : AreOwners d o) (s : Span) (i : IsSp
     all_words : (s.word ≡ 0) × (s.word_end ≡ (var_of d s.var).words)
     all_words = elim i.one_or_all [ inl one ↦ absurd (many one) | inr all ↦ all ]
 
-    pub by_column : (p at : ℕ) → IsAmong (columns_of (slots_of d) s) at → HasEdge o.columns.items at p → DrivesIn d p s
+    pub by_column : (p at : ℕ) → IsAmong (columns_of (slots_of d) s) at → HasEdge o.columns at p → DrivesIn d p s
     by_column p at a h =
         let k : (c : ℕ) × (s.place ≤ c) × (c < s.place_end) × (column_number (slots_of d) s.var c ≡ at) = column_with (slots_of d) s at a in
         let b : (b : Bit) × (b.var ≡ s.var) × (b.place ≡ k.0) × IsBitOf d b × Settles d p b =
-        owners.from_column s.var k.0 p i.of_variable (omega (arith, k.2, i.in_width)) (subst (λ j. HasEdge o.columns.items j p) (sym k.3) h) in
+        owners.from_column s.var k.0 p i.of_variable (omega (arith, k.2, i.in_width)) (subst (λ j. HasEdge o.columns j p) (sym k.3) h) in
         let words : (var_of d b.0.var).words ≡ s.word_end = ap (λ v. (var_of d v).words) b.1 ∙ sym all_words.1 in
         record {
           bit = b.0;

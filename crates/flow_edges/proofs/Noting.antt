@@ -34,20 +34,20 @@ table_kept old new S t n = record {
 pub notes_none : (o : Owners) (S : ℕ → Span → Type 0) → ((x : ℕ) (s : Span) → S x s → ⊥) → Notes o o S
 notes_none o S none = record {
   slots = refl;
-  bits = adds_none o.bits.items (InBits o.slots.items S) (λ i x r. none x r.0 r.1);
-  whole = adds_none o.whole.items (InWhole o.slots.items S) (λ i x r. none x r.0 r.1);
-  columns = adds_none o.columns.items (InColumns o.slots.items S) (λ i x r. none x r.0 r.1);
+  bits = adds_none o.bits (InBits o.slots.items S) (λ i x r. none x r.0 r.1);
+  whole = adds_none o.whole (InWhole o.slots.items S) (λ i x r. none x r.0 r.1);
+  columns = adds_none o.columns (InColumns o.slots.items S) (λ i x r. none x r.0 r.1);
 }
 
 pub notes_as : (a b : Owners) (R T : ℕ → Span → Type 0) → Notes a b R → ((x : ℕ) (s : Span) → R x s → T x s) → ((x : ℕ) (s : Span) → T x s → R x s)
     → Notes a b T
 notes_as a b R T h to from = record {
   slots = h.slots;
-  bits = adds_as a.bits.items b.bits.items (InBits a.slots.items R) (InBits a.slots.items T) h.bits
+  bits = adds_as a.bits b.bits (InBits a.slots.items R) (InBits a.slots.items T) h.bits
       (λ i x r. (r.0, to x r.0 r.1, r.2, r.3)) (λ i x r. (r.0, from x r.0 r.1, r.2, r.3));
-  whole = adds_as a.whole.items b.whole.items (InWhole a.slots.items R) (InWhole a.slots.items T) h.whole
+  whole = adds_as a.whole b.whole (InWhole a.slots.items R) (InWhole a.slots.items T) h.whole
       (λ i x r. (r.0, to x r.0 r.1, r.2, r.3)) (λ i x r. (r.0, from x r.0 r.1, r.2, r.3));
-  columns = adds_as a.columns.items b.columns.items (InColumns a.slots.items R) (InColumns a.slots.items T) h.columns
+  columns = adds_as a.columns b.columns (InColumns a.slots.items R) (InColumns a.slots.items T) h.columns
       (λ i x r. (r.0, to x r.0 r.1, r.2)) (λ i x r. (r.0, from x r.0 r.1, r.2));
 }
 
@@ -56,16 +56,16 @@ pub notes_more : (a b c : Owners) (R S T : ℕ → Span → Type 0) → Notes a 
     → ((x : ℕ) (s : Span) → R x s → T x s) → ((x : ℕ) (s : Span) → S x s → T x s) → ((x : ℕ) (s : Span) → T x s → R x s ⊎ S x s) → Notes a c T
 notes_more a b c R S T first then from_first from_then either = record {
   slots = then.slots ∙ first.slots;
-  bits = adds_more a.bits.items b.bits.items c.bits.items (InBits a.slots.items R) (InBits a.slots.items S) (InBits a.slots.items T) first.bits
-      (subst (λ slots. Adds b.bits.items c.bits.items (InBits slots S)) first.slots then.bits)
+  bits = adds_more a.bits b.bits c.bits (InBits a.slots.items R) (InBits a.slots.items S) (InBits a.slots.items T) first.bits
+      (subst (λ slots. Adds b.bits c.bits (InBits slots S)) first.slots then.bits)
       (λ i x r. (r.0, from_first x r.0 r.1, r.2, r.3)) (λ i x r. (r.0, from_then x r.0 r.1, r.2, r.3))
       (λ i x r. elim (either x r.0 r.1) [ inl e ↦ inl (r.0, e, r.2, r.3) | inr e ↦ inr (r.0, e, r.2, r.3) ]);
-  whole = adds_more a.whole.items b.whole.items c.whole.items (InWhole a.slots.items R) (InWhole a.slots.items S) (InWhole a.slots.items T) first.whole
-      (subst (λ slots. Adds b.whole.items c.whole.items (InWhole slots S)) first.slots then.whole)
+  whole = adds_more a.whole b.whole c.whole (InWhole a.slots.items R) (InWhole a.slots.items S) (InWhole a.slots.items T) first.whole
+      (subst (λ slots. Adds b.whole c.whole (InWhole slots S)) first.slots then.whole)
       (λ i x r. (r.0, from_first x r.0 r.1, r.2, r.3)) (λ i x r. (r.0, from_then x r.0 r.1, r.2, r.3))
       (λ i x r. elim (either x r.0 r.1) [ inl e ↦ inl (r.0, e, r.2, r.3) | inr e ↦ inr (r.0, e, r.2, r.3) ]);
-  columns = adds_more a.columns.items b.columns.items c.columns.items (InColumns a.slots.items R) (InColumns a.slots.items S) (InColumns a.slots.items T)
-      first.columns (subst (λ slots. Adds b.columns.items c.columns.items (InColumns slots S)) first.slots then.columns)
+  columns = adds_more a.columns b.columns c.columns (InColumns a.slots.items R) (InColumns a.slots.items S) (InColumns a.slots.items T)
+      first.columns (subst (λ slots. Adds b.columns c.columns (InColumns slots S)) first.slots then.columns)
       (λ i x r. (r.0, from_first x r.0 r.1, r.2)) (λ i x r. (r.0, from_then x r.0 r.1, r.2))
       (λ i x r. elim (either x r.0 r.1) [ inl e ↦ inl (r.0, e, r.2) | inr e ↦ inr (r.0, e, r.2) ]);
 }
@@ -76,37 +76,37 @@ module _ (old new : Owners) (span : Span) (p : ℕ) where
   abbrev One : ℕ → Span → Type 0
   One x s = (x ≡ p) × (s ≡ span)
 
-  in_columns : Adds old.columns.items new.columns.items (λ i x. IsAmong (columns_of old.slots.items span) i × (x ≡ p))
-      → Adds old.columns.items new.columns.items (InColumns old.slots.items One)
-  in_columns h = adds_as old.columns.items new.columns.items (λ i x. IsAmong (columns_of old.slots.items span) i × (x ≡ p))
+  in_columns : Adds old.columns new.columns (λ i x. IsAmong (columns_of old.slots.items span) i × (x ≡ p))
+      → Adds old.columns new.columns (InColumns old.slots.items One)
+  in_columns h = adds_as old.columns new.columns (λ i x. IsAmong (columns_of old.slots.items span) i × (x ≡ p))
       (InColumns old.slots.items One) h (λ i x r. (span, (r.1, refl), r.0))
       (λ i x r. (subst (λ (s : Span). IsAmong (columns_of old.slots.items s) i) r.1.1 r.2, r.1.0))
 
   -- a span of one word
-  pub notes_word : new.slots.items ≡ old.slots.items → new.whole.items ≡ old.whole.items → IsOfWord span
-      → Adds old.bits.items new.bits.items (λ i x. IsAmong (bits_of old.slots.items span) i × (x ≡ p))
-      → Adds old.columns.items new.columns.items (λ i x. IsAmong (columns_of old.slots.items span) i × (x ≡ p))
+  pub notes_word : new.slots.items ≡ old.slots.items → new.whole ≡ old.whole → IsOfWord span
+      → Adds old.bits new.bits (λ i x. IsAmong (bits_of old.slots.items span) i × (x ≡ p))
+      → Adds old.columns new.columns (λ i x. IsAmong (columns_of old.slots.items span) i × (x ≡ p))
       → Notes old new One
   notes_word slots whole one bits columns = record {
     slots = slots;
-    bits = adds_as old.bits.items new.bits.items (λ i x. IsAmong (bits_of old.slots.items span) i × (x ≡ p)) (InBits old.slots.items One) bits
+    bits = adds_as old.bits new.bits (λ i x. IsAmong (bits_of old.slots.items span) i × (x ≡ p)) (InBits old.slots.items One) bits
         (λ i x r. (span, (r.1, refl), one, r.0))
         (λ i x r. (subst (λ (s : Span). IsAmong (bits_of old.slots.items s) i) r.1.1 r.3, r.1.0));
-    whole = subst (λ (g : Graph). Adds old.whole.items g (InWhole old.slots.items One)) (sym whole)
-        (adds_none old.whole.items (InWhole old.slots.items One) (λ i x r. r.2 (subst IsOfWord (sym r.1.1) one)));
+    whole = subst (λ (g : Graph). Adds old.whole g (InWhole old.slots.items One)) (sym whole)
+        (adds_none old.whole (InWhole old.slots.items One) (λ i x r. r.2 (subst IsOfWord (sym r.1.1) one)));
     columns = in_columns columns;
   }
 
   -- a span of all words, of which there are several
-  pub notes_whole : new.slots.items ≡ old.slots.items → new.bits.items ≡ old.bits.items → (IsOfWord span → ⊥)
-      → Adds old.whole.items new.whole.items (λ i x. IsAmong (columns_of old.slots.items span) i × (x ≡ p))
-      → Adds old.columns.items new.columns.items (λ i x. IsAmong (columns_of old.slots.items span) i × (x ≡ p))
+  pub notes_whole : new.slots.items ≡ old.slots.items → new.bits ≡ old.bits → (IsOfWord span → ⊥)
+      → Adds old.whole new.whole (λ i x. IsAmong (columns_of old.slots.items span) i × (x ≡ p))
+      → Adds old.columns new.columns (λ i x. IsAmong (columns_of old.slots.items span) i × (x ≡ p))
       → Notes old new One
   notes_whole slots bits many whole columns = record {
     slots = slots;
-    bits = subst (λ (g : Graph). Adds old.bits.items g (InBits old.slots.items One)) (sym bits)
-        (adds_none old.bits.items (InBits old.slots.items One) (λ i x r. many (subst IsOfWord r.1.1 r.2)));
-    whole = adds_as old.whole.items new.whole.items (λ i x. IsAmong (columns_of old.slots.items span) i × (x ≡ p)) (InWhole old.slots.items One) whole
+    bits = subst (λ (g : Graph). Adds old.bits g (InBits old.slots.items One)) (sym bits)
+        (adds_none old.bits (InBits old.slots.items One) (λ i x r. many (subst IsOfWord r.1.1 r.2)));
+    whole = adds_as old.whole new.whole (λ i x. IsAmong (columns_of old.slots.items span) i × (x ≡ p)) (InWhole old.slots.items One) whole
         (λ i x r. (span, (r.1, refl), many, r.0))
         (λ i x r. (subst (λ (s : Span). IsAmong (columns_of old.slots.items s) i) r.1.1 r.3, r.1.0));
     columns = in_columns columns;

@@ -114,19 +114,19 @@ module _ (d : Design) (us : List Uses) (uses : (p : ℕ) → p < length d.proces
 
   module _ (blank o : Owners) (n : ℕ) (end : length d.processes ≤ n) (few : AreNumbered (slots_of d)) (start : IsBlank d.vars blank)
       (notes : Notes blank o (Named d us n)) where
-    bits : Adds blank.bits.items o.bits.items (InBits (slots_of d) (Named d us n))
-    bits = subst (λ slots. Adds blank.bits.items o.bits.items (InBits slots (Named d us n))) start.slots notes.bits
+    bits : Adds blank.bits o.bits (InBits (slots_of d) (Named d us n))
+    bits = subst (λ slots. Adds blank.bits o.bits (InBits slots (Named d us n))) start.slots notes.bits
 
-    whole : Adds blank.whole.items o.whole.items (InWhole (slots_of d) (Named d us n))
-    whole = subst (λ slots. Adds blank.whole.items o.whole.items (InWhole slots (Named d us n))) start.slots notes.whole
+    whole : Adds blank.whole o.whole (InWhole (slots_of d) (Named d us n))
+    whole = subst (λ slots. Adds blank.whole o.whole (InWhole slots (Named d us n))) start.slots notes.whole
 
-    columns : Adds blank.columns.items o.columns.items (InColumns (slots_of d) (Named d us n))
-    columns = subst (λ slots. Adds blank.columns.items o.columns.items (InColumns slots (Named d us n))) start.slots notes.columns
+    columns : Adds blank.columns o.columns (InColumns (slots_of d) (Named d us n))
+    columns = subst (λ slots. Adds blank.columns o.columns (InColumns slots (Named d us n))) start.slots notes.columns
 
     below : (x : ℕ) → IsTrue (settles (kind_of d x)) → x < n
     below x settled = let lt : x < length d.processes = settles_below d x settled in omega (arith, lt, end)
 
-    from_bit : (b : Bit) (p : ℕ) → IsBitOf d b → HasEdge o.bits.items (number (slots_of d) b) p → Settles d p b
+    from_bit : (b : Bit) (p : ℕ) → IsBitOf d b → HasEdge o.bits (number (slots_of d) b) p → Settles d p b
     from_bit b p i h = elim (bits.only (number (slots_of d) b) p h) [
       | inl old ↦ absurd (start.bits (number (slots_of d) b) p old)
       | inr r ↦ driven_by p r.0 b r.1.1 r.1.2 i
@@ -142,7 +142,7 @@ module _ (d : Design) (us : List Uses) (uses : (p : ℕ) → p < length d.proces
     column_is v c p s lt inside i a =
         column_among (slots_of d) s v c few (span_in d.vars s i) (omega (arith, slots_many 0 0 d.vars, lt)) (omega (arith, (width_is v lt).width, inside)) a
 
-    from_whole : (b : Bit) (p : ℕ) → IsBitOf d b → HasEdge o.whole.items (column_number (slots_of d) b.var b.place) p → Settles d p b
+    from_whole : (b : Bit) (p : ℕ) → IsBitOf d b → HasEdge o.whole (column_number (slots_of d) b.var b.place) p → Settles d p b
     from_whole b p i h = elim (whole.only (column_number (slots_of d) b.var b.place) p h) [
       | inl old ↦ absurd (start.whole (column_number (slots_of d) b.var b.place) p old)
       | inr r ↦ driven_by p r.0 b r.1.1 r.1.2 i (whole_has r.0 b (named_in p r.0 r.1.1 r.1.2) r.2 i
@@ -158,7 +158,7 @@ module _ (d : Design) (us : List Uses) (uses : (p : ℕ) → p < length d.proces
               (is_within s b.word b.place (omega (arith, all.0)) (omega (arith, words, here.of_word)) k.place k.place_end))
         ]
 
-    from_column : (v c p : ℕ) → v < length d.vars → c < (var_of d v).width → HasEdge o.columns.items (column_number (slots_of d) v c) p
+    from_column : (v c p : ℕ) → v < length d.vars → c < (var_of d v).width → HasEdge o.columns (column_number (slots_of d) v c) p
         → (b : Bit) × (b.var ≡ v) × (b.place ≡ c) × IsBitOf d b × Settles d p b
     from_column v c p lt inside h = elim (columns.only (column_number (slots_of d) v c) p h) [
       | inl old ↦ absurd (start.columns (column_number (slots_of d) v c) p old)
@@ -175,7 +175,7 @@ module _ (d : Design) (us : List Uses) (uses : (p : ℕ) → p < length d.proces
     ]
 
     to_bit : (b : Bit) (p : ℕ) → IsBitOf d b → Settles d p b
-        → HasEdge o.bits.items (number (slots_of d) b) p ⊎ HasEdge o.whole.items (column_number (slots_of d) b.var b.place) p
+        → HasEdge o.bits (number (slots_of d) b) p ⊎ HasEdge o.whole (column_number (slots_of d) b.var b.place) p
     to_bit b p i h =
         let s : NamesIt (get_or us p no_uses) b = names_of p b i h in
         elim (cases_eq s.span.word_end (s.span.word + 1)) [
@@ -185,7 +185,7 @@ module _ (d : Design) (us : List Uses) (uses : (p : ℕ) → p < length d.proces
               (s.span, (below p h.kind, h.kind, s.named), many, among_columns (slots_of d) s.span b s.within))
         ]
 
-    to_column : (b : Bit) (p : ℕ) → IsBitOf d b → Settles d p b → HasEdge o.columns.items (column_number (slots_of d) b.var b.place) p
+    to_column : (b : Bit) (p : ℕ) → IsBitOf d b → Settles d p b → HasEdge o.columns (column_number (slots_of d) b.var b.place) p
     to_column b p i h =
         let s : NamesIt (get_or us p no_uses) b = names_of p b i h in
         columns.there (column_number (slots_of d) b.var b.place) p

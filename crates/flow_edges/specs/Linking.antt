@@ -50,12 +50,12 @@ Reading d S i x = (s : Span) × S x s × (IsOfWord s → ⊥) × IsAmong (column
 
 pub record Grows (d : Design) (old new : Links) (S : ℕ → Span → Type 0) : Type 0 where
   pub next : Adds old.next.items new.next.items (Direct d S)
-  pub readers : Adds old.readers.items new.readers.items (Reading d S)
+  pub readers : Adds old.readers new.readers (Reading d S)
 
 -- there is a row for each process and for each column
 pub record AreSized (d : Design) (l : Links) : Type 0 where
   pub next : length l.next.items ≡ length d.processes
-  pub readers : length l.readers.items ≡ before wide (slots_of d) (length (slots_of d))
+  pub readers : length l.readers ≡ before wide (slots_of d) (length (slots_of d))
 
 -- ---- all processes
 
@@ -68,8 +68,8 @@ pub record AreLinks (d : Design) (us : List Uses) (l : Links) : Type 0 where
   pub sized : AreSized d l
   pub next_only : (p q : ℕ) → HasEdge l.next.items p q → Direct d (ReadsSpan d us) p q
   pub next_there : (p q : ℕ) → Direct d (ReadsSpan d us) p q → HasEdge l.next.items p q
-  pub readers_only : (i q : ℕ) → HasEdge l.readers.items i q → Reading d (ReadsSpan d us) i q
-  pub readers_there : (i q : ℕ) → Reading d (ReadsSpan d us) i q → HasEdge l.readers.items i q
+  pub readers_only : (i q : ℕ) → HasEdge l.readers i q → Reading d (ReadsSpan d us) i q
+  pub readers_there : (i q : ℕ) → Reading d (ReadsSpan d us) i q → HasEdge l.readers i q
 
 -- each process leads to itself where it is an assignment
 pub record AreSelfish (d : Design) (selfish : List Bool) : Type 0 where

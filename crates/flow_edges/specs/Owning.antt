@@ -19,17 +19,17 @@ use Rattle.flow_edges.specs.Stretches.{AreNumbered, IsAmong, bits_of, columns_of
 -- there is a row for each bit, and two for each column
 pub record IsTable (o : Owners) : Type 0 where
   pub numbered : AreNumbered o.slots.items
-  pub bits : length o.bits.items ≡ before size o.slots.items (length o.slots.items)
-  pub whole : length o.whole.items ≡ before wide o.slots.items (length o.slots.items)
-  pub columns : length o.columns.items ≡ before wide o.slots.items (length o.slots.items)
+  pub bits : length o.bits ≡ before size o.slots.items (length o.slots.items)
+  pub whole : length o.whole ≡ before wide o.slots.items (length o.slots.items)
+  pub columns : length o.columns ≡ before wide o.slots.items (length o.slots.items)
 
 -- a table of some variables, of which no bit is driven
 pub record IsBlank (vars : List Var) (o : Owners) : Type 0 where
   pub slots : o.slots.items ≡ slots_from 0 0 vars
   pub table : IsTable o
-  pub bits : (i x : ℕ) → HasEdge o.bits.items i x → ⊥
-  pub whole : (i x : ℕ) → HasEdge o.whole.items i x → ⊥
-  pub columns : (i x : ℕ) → HasEdge o.columns.items i x → ⊥
+  pub bits : (i x : ℕ) → HasEdge o.bits i x → ⊥
+  pub whole : (i x : ℕ) → HasEdge o.whole i x → ⊥
+  pub columns : (i x : ℕ) → HasEdge o.columns i x → ⊥
 
 -- a span names bits of one word
 abbrev pub IsOfWord : Span → Type 0
@@ -42,9 +42,9 @@ IsNamed u s = Contains u.sets s ⊎ Contains u.defers s
 -- The table has grown by the processes x and spans s for which S holds, and by nothing else.
 pub record Notes (old new : Owners) (S : ℕ → Span → Type 0) : Type 0 where
   pub slots : new.slots.items ≡ old.slots.items
-  pub bits : Adds old.bits.items new.bits.items (λ i x. (s : Span) × S x s × IsOfWord s × IsAmong (bits_of old.slots.items s) i)
-  pub whole : Adds old.whole.items new.whole.items (λ i x. (s : Span) × S x s × (IsOfWord s → ⊥) × IsAmong (columns_of old.slots.items s) i)
-  pub columns : Adds old.columns.items new.columns.items (λ i x. (s : Span) × S x s × IsAmong (columns_of old.slots.items s) i)
+  pub bits : Adds old.bits new.bits (λ i x. (s : Span) × S x s × IsOfWord s × IsAmong (bits_of old.slots.items s) i)
+  pub whole : Adds old.whole new.whole (λ i x. (s : Span) × S x s × (IsOfWord s → ⊥) × IsAmong (columns_of old.slots.items s) i)
+  pub columns : Adds old.columns new.columns (λ i x. (s : Span) × S x s × IsAmong (columns_of old.slots.items s) i)
 
 -- ---- a design
 
@@ -62,13 +62,13 @@ slots_of d = slots_from 0 0 d.vars
 pub record AreOwners (d : Design) (o : Owners) : Type 0 where
   pub slots : o.slots.items ≡ slots_of d
   pub table : IsTable o
-  pub from_bit : (b : Bit) (p : ℕ) → IsBitOf d b → HasEdge o.bits.items (number (slots_of d) b) p → Settles d p b
-  pub from_whole : (b : Bit) (p : ℕ) → IsBitOf d b → HasEdge o.whole.items (column_number (slots_of d) b.var b.place) p → Settles d p b
-  pub from_column : (v c p : ℕ) → v < length d.vars → c < (var_of d.vars v).width → HasEdge o.columns.items (column_number (slots_of d) v c) p
+  pub from_bit : (b : Bit) (p : ℕ) → IsBitOf d b → HasEdge o.bits (number (slots_of d) b) p → Settles d p b
+  pub from_whole : (b : Bit) (p : ℕ) → IsBitOf d b → HasEdge o.whole (column_number (slots_of d) b.var b.place) p → Settles d p b
+  pub from_column : (v c p : ℕ) → v < length d.vars → c < (var_of d.vars v).width → HasEdge o.columns (column_number (slots_of d) v c) p
       → (b : Bit) × (b.var ≡ v) × (b.place ≡ c) × IsBitOf d b × Settles d p b
   pub to_bit : (b : Bit) (p : ℕ) → IsBitOf d b → Settles d p b
-      → HasEdge o.bits.items (number (slots_of d) b) p ⊎ HasEdge o.whole.items (column_number (slots_of d) b.var b.place) p
-  pub to_column : (b : Bit) (p : ℕ) → IsBitOf d b → Settles d p b → HasEdge o.columns.items (column_number (slots_of d) b.var b.place) p
-  pub bits_below : (i x : ℕ) → HasEdge o.bits.items i x → x < length d.processes
-  pub whole_below : (i x : ℕ) → HasEdge o.whole.items i x → x < length d.processes
-  pub columns_below : (i x : ℕ) → HasEdge o.columns.items i x → x < length d.processes
+      → HasEdge o.bits (number (slots_of d) b) p ⊎ HasEdge o.whole (column_number (slots_of d) b.var b.place) p
+  pub to_column : (b : Bit) (p : ℕ) → IsBitOf d b → Settles d p b → HasEdge o.columns (column_number (slots_of d) b.var b.place) p
+  pub bits_below : (i x : ℕ) → HasEdge o.bits i x → x < length d.processes
+  pub whole_below : (i x : ℕ) → HasEdge o.whole i x → x < length d.processes
+  pub columns_below : (i x : ℕ) → HasEdge o.columns i x → x < length d.processes

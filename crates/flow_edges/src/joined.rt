@@ -11,7 +11,7 @@ use crate::links::Links;
 use crate::owners::Owners;
 use cov_types::{NoMemory, ProcessKind, Rows};
 use design_tree::Design;
-use flow_hubs::join;
+use flow_hubs::{Chains, join};
 use flow_uses::Uses;
 use std::alloc::Global;
 
@@ -40,8 +40,8 @@ fn selfish_of(alloc: Global, design: &Design) -> Result<Vec<bool>, NoMemory>
 /// Leads the drivers of each column to its readers.
 fn join_columns(
     alloc: Global,
-    drivers: &[Rows<u32>],
-    readers: &[Rows<u32>],
+    drivers: &Chains,
+    readers: &Chains,
     selfish: &[bool],
     next: &mut Vec<Rows<u32>>,
 ) -> Result<(), NoMemory>
@@ -56,13 +56,17 @@ fn join_columns(
     ensures stands { IfOk result (λ _. Stands (length next.old.items) (LeadsBy next.old.items drivers.now readers.now selfish.now (length drivers.now)) next.new.items) }
 {
     let mut marks = vec![in alloc; false; selfish.len()]?;
+    let mut from = Vec::new(alloc);
+    let mut to = Vec::new(alloc);
     for at in 0..drivers.len() {
+        drivers.read(at, &mut from)?;
+        readers.read(at, &mut to)?;
         join(
             alloc,
             next,
             &mut marks,
-            drivers[at].as_slice(),
-            readers[at].as_slice(),
+            from.as_slice(),
+            to.as_slice(),
             selfish,
         )?;
     }
@@ -88,8 +92,8 @@ pub(crate) fn graph_of(
     let Links { mut next, readers } = links;
     join_columns(
         alloc,
-        owners.columns.as_slice(),
-        readers.as_slice(),
+        &owners.columns,
+        &readers,
         selfish.as_slice(),
         &mut next,
     )?;

@@ -13,7 +13,7 @@ use crate::owners::{Owners, settles};
 use crate::stretch::{Stretch, bits_of, columns_of};
 use cov_types::{NoMemory, ProcessKind, Rows};
 use design_tree::Design;
-use flow_hubs::{no_rows, note};
+use flow_hubs::{Chains, no_rows, note};
 use flow_uses::{Span, Uses};
 use std::alloc::Global;
 
@@ -63,8 +63,9 @@ fn link_each(
 
 /// Puts a reader behind the processes of several rows.
 fn link_rows(
+    alloc: Global,
     design: &Design,
-    rows: &[Rows<u32>],
+    rows: &Chains,
     among: Stretch,
     q: u32,
     next: &mut Vec<Rows<u32>>,
@@ -75,14 +76,17 @@ fn link_rows(
     requires many { length next.old.items ≡ length design.now.processes }
     ensures { IfOk result (λ _. Adds next.old.items next.new.items (OfRows design.now rows.now among q)) }
 {
+    let mut row = Vec::new(alloc);
     for at in among.from..among.to {
-        link_each(design, rows[at].as_slice(), q, next)?;
+        rows.read(at, &mut row)?;
+        link_each(design, row.as_slice(), q, next)?;
     }
     Ok(())
 }
 
 /// Puts a reader of a span in one word behind the processes that drive a bit of it.
 fn link_word(
+    alloc: Global,
     design: &Design,
     owners: &Owners,
     span: Span,
@@ -98,8 +102,8 @@ fn link_word(
     let slots = owners.slots.as_slice();
     let bits = bits_of(slots, span);
     let columns = columns_of(slots, span);
-    link_rows(design, owners.bits.as_slice(), bits, q, next)?;
-    link_rows(design, owners.whole.as_slice(), columns, q, next)?;
+    link_rows(alloc, design, &owners.bits, bits, q, next)?;
+    link_rows(alloc, design, &owners.whole, columns, q, next)?;
     Ok(())
 }
 
@@ -109,11 +113,12 @@ pub(crate) struct Links {
     /// For each process those that read a bit at a constant word which it drives.
     pub(crate) next: Vec<Rows<u32>>,
     /// For each column those that read it in all words.
-    pub(crate) readers: Vec<Rows<u32>>,
+    pub(crate) readers: Chains,
 }
 
 /// Notes that a process reads a span.
 fn link_span(
+    alloc: Global,
     design: &Design,
     owners: &Owners,
     span: Span,
@@ -126,7 +131,7 @@ fn link_span(
     ensures { IfOk result (λ _. Grows design.now links.old links.new (λ x s. (x ≡ q) × (s ≡ span))) }
 {
     if span.word_end == 1 + span.word {
-        link_word(design, owners, span, q, &mut links.next)?;
+        link_word(alloc, design, owners, span, q, &mut links.next)?;
         return Ok(());
     }
     let columns = columns_of(owners.slots.as_slice(), span);
@@ -136,6 +141,7 @@ fn link_span(
 
 /// Notes that a process reads several spans.
 fn link_reads(
+    alloc: Global,
     design: &Design,
     owners: &Owners,
     spans: &[Span],
@@ -148,13 +154,14 @@ fn link_reads(
     ensures { IfOk result (λ _. Grows design.now links.old links.new (λ x s. (x ≡ q) × Contains spans.now s)) }
 {
     for span in spans {
-        link_span(design, owners, *span, q, links)?;
+        link_span(alloc, design, owners, *span, q, links)?;
     }
     Ok(())
 }
 
 /// Notes what a process reads: nothing where it doesn't settle.
 fn link_process(
+    alloc: Global,
     design: &Design,
     owners: &Owners,
     uses: &Uses,
@@ -168,7 +175,7 @@ fn link_process(
     ensures { IfOk result (λ _. Grows design.now links.old links.new (λ x s. (x ≡ q) × IsTrue (settles (kind_of design.now q)) × Contains uses.now.reads s)) }
 {
     if settles(design.processes.as_slice()[q as usize].kind) {
-        link_reads(design, owners, uses.reads.as_slice(), q, links)?;
+        link_reads(alloc, design, owners, uses.reads.as_slice(), q, links)?;
         return Ok(());
     }
     Ok(())
@@ -177,12 +184,12 @@ fn link_process(
 /// For so many processes and columns, none of which leads to others and is read.
 fn no_links(alloc: Global, processes: usize, columns: usize) -> Result<Links, NoMemory>
     ensures next { IfOk result (λ l. length l.next.items ≡ processes) }
-    ensures readers { IfOk result (λ l. length l.readers.items ≡ columns) }
+    ensures readers { IfOk result (λ l. length l.readers ≡ columns) }
     ensures none { IfOk result (λ l. (i x : ℕ) → HasEdge l.next.items i x → ⊥) }
-    ensures unread { IfOk result (λ l. (i x : ℕ) → HasEdge l.readers.items i x → ⊥) }
+    ensures unread { IfOk result (λ l. (i x : ℕ) → HasEdge l.readers i x → ⊥) }
 {
     let next = no_rows(alloc, processes)?;
-    let readers = no_rows(alloc, columns)?;
+    let readers = Chains::new(alloc, columns)?;
     Ok(Links { next, readers })
 }
 
@@ -201,7 +208,7 @@ pub(crate) fn links_of(
 {
     let mut links = no_links(alloc, uses.len(), owners.columns.len())?;
     for q in 0..uses.len() {
-        link_process(design, owners, &uses[q], q as u32, &mut links)?;
+        link_process(alloc, design, owners, &uses[q], q as u32, &mut links)?;
     }
     Ok(links)
 }

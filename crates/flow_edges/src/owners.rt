@@ -8,9 +8,9 @@ ghost use Rattle.flow_edges.specs.Owning.{AreOwners, IsBlank, IsTable, IsNamed, 
 
 use crate::lists::note_all;
 use crate::stretch::{bits_of, columns_of};
-use cov_types::{NoMemory, ProcessKind, Rows, Var};
+use cov_types::{NoMemory, ProcessKind, Var};
 use design_tree::Design;
-use flow_hubs::no_rows;
+use flow_hubs::Chains;
 use flow_marks::{Layout, Slot, laid_out};
 use flow_uses::{Span, Uses};
 use std::alloc::Global;
@@ -21,11 +21,11 @@ use std::alloc::Global;
 pub(crate) struct Owners {
     pub(crate) slots: Vec<Slot>,
     /// For each bit those that name its word.
-    pub(crate) bits: Vec<Rows<u32>>,
+    pub(crate) bits: Chains,
     /// For each column those that name all words.
-    pub(crate) whole: Vec<Rows<u32>>,
+    pub(crate) whole: Chains,
     /// For each column those that drive a bit of it.
-    pub(crate) columns: Vec<Rows<u32>>,
+    pub(crate) columns: Chains,
 }
 
 /// The bits of some variables, none of which is driven.
@@ -38,9 +38,9 @@ fn no_owners(alloc: Global, vars: &[Var]) -> Result<Owners, NoMemory>
         bits,
         columns,
     } = laid_out(alloc, vars)?;
-    let bits = no_rows(alloc, bits)?;
-    let whole = no_rows(alloc, columns)?;
-    let columns = no_rows(alloc, columns)?;
+    let bits = Chains::new(alloc, bits)?;
+    let whole = Chains::new(alloc, columns)?;
+    let columns = Chains::new(alloc, columns)?;
     Ok(Owners {
         slots,
         bits,

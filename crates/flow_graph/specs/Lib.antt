@@ -1,3 +1,4 @@
 pub mod Graph
 pub mod Verdict
 pub mod Listing
+pub mod Falling

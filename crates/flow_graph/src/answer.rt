@@ -2,7 +2,8 @@ ghost use Rattle.std.specs.Prelude.{ℕ, ◌<◌, ◌^◌, ◌↔◌, length, If
 ghost use Rattle.flow_graph.specs.Graph.{IsGraph, IsLeastCircle, IsOnCircle};
 ghost use Rattle.flow_graph.specs.Verdict.{IsSorted};
 
-use crate::circle::circle_from;
+use crate::falling::{are_falling, circle_at};
+use crate::levels::levels_of;
 use crate::order::{Walked, list_all};
 use cov_types::{NoMemory, Rows};
 use std::alloc::Global;
@@ -38,17 +39,19 @@ fn least_circle(alloc: Global, next: &[Rows<u32>], from: u32) -> Result<Rows<u32
     requires none { (q : ℕ) → q < from → IsOnCircle next.now q → ⊥ }
     ensures { IfOk result (IsLeastCircle next.now) }
 {
+    let found = levels_of(alloc, next)?;
+    let levels = found.as_slice();
+    let falling = are_falling(next, levels);
     for p in from as usize..next.len() {
-        if let Some(circle) = circle_from(alloc, next, p as u32)? {
+        if let Some(circle) = circle_at(alloc, next, levels, falling, p as u32)? {
             return Ok(Rows::from_vec(circle));
         }
     }
     unreachable!()
 }
 
-/// An order of the vertices in which each edge leads on, or the circle that begins with the least vertex on any. Its
-/// time grows with the edges where there is an order; where there is a circle, with the edges times the vertices that are asked for one:
-/// those from the first on that reaches a circle to the least on any.
+/// An order of the vertices in which each edge leads on, or the circle that begins with the least vertex on any. Its time grows with the
+/// vertices and edges.
 pub fn sort(alloc: Global, next: &[Rows<u32>]) -> Result<Sorted, NoMemory>
     requires graph { IsGraph next.now }
     requires few { length next.now < 2 ^ 32 }

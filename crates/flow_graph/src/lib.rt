@@ -3,6 +3,8 @@
 
 mod answer;
 mod circle;
+mod falling;
+mod levels;
 mod order;
 
 pub use answer::{Sorted, is_graph, sort};

@@ -2,3 +2,4 @@ pub mod Growing
 pub mod Listed
 pub mod Joined
 pub mod Firsts
+pub mod Chaining

@@ -1,3 +1,4 @@
 pub mod Adding
 pub mod Hubs
 pub mod Kept
+pub mod Chained

@@ -3,11 +3,13 @@
 #![tactic(auto)]
 
 mod answer;
+mod chains;
 mod hub;
 mod rows;
 mod sharing;
 
 pub use answer::sort_first;
+pub use chains::Chains;
 pub use flow_graph::Sorted;
 pub use hub::join;
 pub use rows::{no_rows, note};

@@ -1,5 +1,4 @@
 use Rattle.std.proofs.Common.{◌≡◌, sym, subst, ap, ◌<◌, arith, ℕ, List, length}
-use Rattle.flow_graph.specs.Graph.{Graph, HasEdge}
 use Rattle.flow_marks.specs.declared.slot.Slot.{Slot}
 use Rattle.flow_marks.specs.Slots.{before, wide}
 use Rattle.flow_edges.specs.Owning.{slots_of}
@@ -13,8 +12,6 @@ join_columns-requires-clause-as_many c =
     ap (λ (slots : List Slot). before wide slots (length slots)) c.requires.owners.slots in
     omega (
       arith,
-      ap (λ (g : Graph). length g) c.as_slice-2.ensures.value,
-      ap (λ (g : Graph). length g) c.as_slice.ensures.value,
       c.requires.links.sized.readers,
       c.requires.owners.table.columns,
       wide_is,
@@ -22,16 +19,14 @@ join_columns-requires-clause-as_many c =
 
 pub join_columns-requires-clause-columns : goal.join_columns-requires-clause-columns
 join_columns-requires-clause-columns c =
-    omega (arith, ap (λ (g : Graph). length g) c.as_slice.ensures.value, c.requires.owners.table.columns, c.requires.owners.table.numbered.columns)
+    omega (arith, c.requires.owners.table.columns, c.requires.owners.table.numbered.columns)
 
 pub join_columns-requires-clause-drivers : goal.join_columns-requires-clause-drivers
 join_columns-requires-clause-drivers c =
-    subst (λ (g : Graph). (i x : ℕ) → HasEdge g i x → x < length c.args.links.next.items) (sym c.as_slice.ensures.value)
     (λ i x h. (let lt : x < length c.args.design.now.processes = c.requires.owners.columns_below i x h in omega (arith, lt, c.requires.links.sized.next)))
 
 pub join_columns-requires-clause-readers : goal.join_columns-requires-clause-readers
 join_columns-requires-clause-readers c =
-    subst (λ (g : Graph). (i x : ℕ) → HasEdge g i x → x < length c.args.links.next.items) (sym c.as_slice-2.ensures.value)
     (λ i x h. (let lt : x < length c.args.design.now.processes = readers_below c.args.design.now c.args.uses.now c.args.owners.now c.args.links
     c.in_ok-selfish.selfish.items c.requires.owners c.requires.links c.in_ok-selfish.ensures c.requires.uses i x h in
     omega (arith, lt, c.requires.links.sized.next)))
@@ -44,4 +39,4 @@ pub returns-clause-stands : goal.returns-clause-stands
 returns-clause-stands c =
     columns_lead c.args.design.now c.args.uses.now c.args.owners.now c.args.links c.in_ok-selfish.selfish.items c.requires.owners c.requires.links
     c.in_ok-selfish.ensures c.requires.uses c.join_columns.new.next.items
-    (rw (c.as_slice.ensures.value, c.as_slice-2.ensures.value, c.as_slice-3.ensures.value, c.requires.links.sized.next) at c.in_ok-join_columns.ensures.stands)
+    (rw (c.as_slice.ensures.value, c.requires.links.sized.next) at c.in_ok-join_columns.ensures.stands)

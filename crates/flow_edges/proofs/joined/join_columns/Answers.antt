@@ -1,6 +1,6 @@
-use Rattle.std.proofs.Common.{◌≡◌, ◌∙◌, sym, subst, ap, ◌+◌, ◌<◌, ◌≤◌, arith, ℕ, List, [], length, get_or, false}
+use Rattle.std.proofs.Common.{◌≡◌, ◌∙◌, sym, subst, ap, ◌+◌, ◌<◌, ◌≤◌, arith, ℕ, List, length, get_or, false}
 use Rattle.std.specs.Prelude.{All}
-use Rattle.std.proofs.lemmas.List.{get_or_read, length-replicate}
+use Rattle.std.proofs.lemmas.List.{length-replicate}
 use Rattle.std.proofs.lemmas.List.Elements.{Contains-get_or}
 use Rattle.flow_graph.specs.Graph.{next_of}
 use Rattle.flow_graph.proofs.Trails.{blanks}
@@ -20,8 +20,7 @@ loop-at-init c = record {
 
 pub join-requires-clause-drivers : goal.join-requires-clause-drivers
 join-requires-clause-drivers c =
-    let row : c.as_slice.result.now ≡ next_of c.args.drivers.now c.loop-at.at =
-    c.as_slice.ensures ∙ get_or_read c.args.drivers.now c.loop-at.at c.index-drivers-at.result c.loop-at-test.true c.index-drivers-at.is [] in
+    let row : c.as_slice.result.now ≡ next_of c.args.drivers.now c.loop-at.at = c.as_slice.ensures.value ∙ c.in_ok-read.ensures in
     subst (λ (from : List ℕ). All (λ p. p < length c.loop-at.marks.items) from) (sym row)
     (λ k d h. (let lt : get_or (next_of c.args.drivers.now c.loop-at.at) k d < length c.args.next.now.items = c.requires.drivers c.loop-at.at
     (get_or (next_of c.args.drivers.now c.loop-at.at) k d) (Contains-get_or (next_of c.args.drivers.now c.loop-at.at) k d h) in
@@ -30,8 +29,7 @@ join-requires-clause-drivers c =
 pub join-requires-clause-readers : goal.join-requires-clause-readers
 join-requires-clause-readers c =
     let row : c.as_slice-in-loop-at.result.now ≡ next_of c.args.readers.now c.loop-at.at =
-    c.as_slice-in-loop-at.ensures ∙ get_or_read c.args.readers.now c.loop-at.at c.index-readers-at.result (omega (arith, c.loop-at-test.true, c.requires.as_many))
-    c.index-readers-at.is [] in
+    c.as_slice-in-loop-at.ensures.value ∙ c.in_ok-read-2.ensures in
     subst (λ (from : List ℕ). All (λ p. p < length c.loop-at.marks.items) from) (sym row)
     (λ k d h. (let lt : get_or (next_of c.args.readers.now c.loop-at.at) k d < length c.args.next.now.items = c.requires.readers c.loop-at.at
     (get_or (next_of c.args.readers.now c.loop-at.at) k d) (Contains-get_or (next_of c.args.readers.now c.loop-at.at) k d h) in
@@ -44,15 +42,14 @@ pub join-requires-clause-many : goal.join-requires-clause-many
 join-requires-clause-many c = omega (arith, c.loop-at.invariant.many, c.requires.selfish, c.loop-at.invariant.stands.many)
 
 pub join-requires-clause-few : goal.join-requires-clause-few
-join-requires-clause-few c = omega (arith, c.loop-at.invariant.grown, c.requires.selfish, c.requires.processes, c.requires.columns, c.loop-at-test.true)
+join-requires-clause-few c =
+    omega (arith, c.loop-at.invariant.grown, c.requires.selfish, c.requires.processes, c.requires.columns, c.loop-at-test.true, c.len-at-end.ensures)
 
 pub loop-at-preserved : goal.loop-at-preserved
 loop-at-preserved c =
-    let drivers : c.as_slice.result.now ≡ next_of c.args.drivers.now c.loop-at.at =
-    c.as_slice.ensures ∙ get_or_read c.args.drivers.now c.loop-at.at c.index-drivers-at.result c.loop-at-test.true c.index-drivers-at.is [] in
+    let drivers : c.as_slice.result.now ≡ next_of c.args.drivers.now c.loop-at.at = c.as_slice.ensures.value ∙ c.in_ok-read.ensures in
     let readers : c.as_slice-in-loop-at.result.now ≡ next_of c.args.readers.now c.loop-at.at =
-    c.as_slice-in-loop-at.ensures ∙ get_or_read c.args.readers.now c.loop-at.at c.index-readers-at.result (omega (arith, c.loop-at-test.true, c.requires.as_many))
-    c.index-readers-at.is [] in
+    c.as_slice-in-loop-at.ensures.value ∙ c.in_ok-read-2.ensures in
     let joins : Joins c.loop-at.next.items c.join.new.next.items (next_of c.args.drivers.now c.loop-at.at) (next_of c.args.readers.now c.loop-at.at)
     c.args.selfish.now =
     subst (λ (to : List ℕ). Joins c.loop-at.next.items c.join.new.next.items (next_of c.args.drivers.now c.loop-at.at) to c.args.selfish.now) readers
@@ -71,9 +68,9 @@ loop-at-preserved c =
 
 pub returns-clause-few : goal.returns-clause-few
 returns-clause-few c =
-    omega (arith, c.loop-at.invariant.grown, c.requires.selfish, c.requires.processes, c.requires.columns, c.loop-at.auto.at-end)
+    omega (arith, c.loop-at.invariant.grown, c.requires.selfish, c.requires.processes, c.requires.columns, c.loop-at.auto.at-end, c.len-at-end.ensures)
 
 pub returns-clause-stands : goal.returns-clause-stands
 returns-clause-stands c =
     subst (λ n. Stands (length c.args.next.now.items) (LeadsBy c.args.next.now.items c.args.drivers.now c.args.readers.now c.args.selfish.now n)
-    c.loop-at.next.items) (omega (arith, c.loop-at-test.false, c.loop-at.auto.at-end)) c.loop-at.invariant.stands
+    c.loop-at.next.items) (omega (arith, c.loop-at-test.false, c.loop-at.auto.at-end, c.len-at-end.ensures)) c.loop-at.invariant.stands

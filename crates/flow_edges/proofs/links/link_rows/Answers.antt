@@ -1,6 +1,5 @@
-use Rattle.std.proofs.Common.{◌≡◌, ◌∙◌, subst, sym, ℕ, ◌<◌, List, [], length, get_or, arith}
+use Rattle.std.proofs.Common.{◌≡◌, ◌∙◌, subst, sym, ℕ, ◌<◌, List, length, get_or, arith}
 use Rattle.std.specs.Prelude.{All, Contains}
-use Rattle.std.proofs.lemmas.List.{get_or_read}
 use Rattle.std.proofs.lemmas.List.Elements.{Contains-get_or}
 use Rattle.flow_graph.specs.Graph.{next_of}
 use Rattle.flow_hubs.specs.Adding.{Adds}
@@ -10,18 +9,14 @@ use Rattle.flow_edges.proofs.links.link_rows.Goals as goal
 
 pub link_each-requires-clause-from : goal.link_each-requires-clause-from
 link_each-requires-clause-from c =
-    let lt : c.loop-at.at < length c.args.rows.now = omega (arith, c.loop-at-test.true, c.requires.inside) in
-    let row : c.as_slice.result.now ≡ next_of c.args.rows.now c.loop-at.at =
-    c.as_slice.ensures ∙ get_or_read c.args.rows.now c.loop-at.at c.index-rows-at.result lt c.index-rows-at.is [] in
+    let row : c.as_slice.result.now ≡ next_of c.args.rows.now c.loop-at.at = c.as_slice.ensures.value ∙ c.in_ok-read.ensures in
     subst (λ (from : List ℕ). All (λ p. p < length c.args.design.now.processes) from) (sym row)
     (λ k d h. c.requires.below c.loop-at.at (get_or (next_of c.args.rows.now c.loop-at.at) k d)
     (Contains-get_or (next_of c.args.rows.now c.loop-at.at) k d h))
 
 pub loop-at-preserved : goal.loop-at-preserved
 loop-at-preserved c =
-    let lt : c.loop-at.at < length c.args.rows.now = omega (arith, c.loop-at-test.true, c.requires.inside) in
-    let row : c.as_slice.result.now ≡ next_of c.args.rows.now c.loop-at.at =
-    c.as_slice.ensures ∙ get_or_read c.args.rows.now c.loop-at.at c.index-rows-at.result lt c.index-rows-at.is [] in
+    let row : c.as_slice.result.now ≡ next_of c.args.rows.now c.loop-at.at = c.as_slice.ensures.value ∙ c.in_ok-read.ensures in
     rows_more c.args.design.now c.args.rows.now c.args.among.from c.loop-at.at c.args.q c.args.next.now.items c.loop-at.next.items
     c.link_each.new.next.items c.loop-at.auto.at c.loop-at.invariant
     (subst (λ (from : List ℕ). Adds c.loop-at.next.items c.link_each.new.next.items

@@ -37,5 +37,5 @@ returns c =
     c.columns_of-columns.ensures ∙ ap (λ (slots : List Slot). columns_of slots c.args.span) (c.as_slice.ensures.value ∙ c.requires.owners.slots) in
     grows_all c.args.design.now c.args.links.now (record { next = c.args.links.now.next; readers = c.note_all.new.rows }) c.args.span c.args.q
     (λ one. absurd (omega (arith, c.if-span.false, one))) refl
-    (subst (λ (r : Stretch). Adds c.args.links.now.readers.items c.note_all.new.rows.items (λ i x. IsAmong r i × (x ≡ c.args.q))) e
+    (subst (λ (r : Stretch). Adds c.args.links.now.readers c.note_all.new.rows (λ i x. IsAmong r i × (x ≡ c.args.q))) e
     c.in_ok-note_all.ensures)

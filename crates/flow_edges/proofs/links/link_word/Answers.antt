@@ -1,6 +1,5 @@
-use Rattle.std.proofs.Common.{◌≡◌, ◌∙◌, sym, ap, subst, ℕ, ◌<◌, length, List, arith}
+use Rattle.std.proofs.Common.{◌≡◌, ◌∙◌, sym, ap, subst, refl, length, List, arith}
 use Rattle.design_tree.specs.declared.design.Design.{Design}
-use Rattle.flow_graph.specs.Graph.{Graph, HasEdge}
 use Rattle.flow_marks.specs.declared.slot.Slot.{Slot}
 use Rattle.flow_marks.specs.declared.span.Span.{Span}
 use Rattle.flow_marks.specs.Slots.{IsSpan, before, size, wide}
@@ -38,12 +37,10 @@ link_rows-requires-clause-inside c =
     let one : IsOfWord s = omega (arith, c.requires.one) in
     let i : IsInside c.bits_of-bits.result (before size o.slots.items (length o.slots.items)) =
     bits_inside d o c.requires.owners s c.requires.span c.args.q c.bits_of-bits.result one bits in
-    omega (arith, i.below, c.requires.owners.table.bits, ap (λ (g : Graph). length g) c.as_slice.ensures.value)
+    omega (arith, i.below, c.requires.owners.table.bits)
 
 pub link_rows-requires-clause-below : goal.link_rows-requires-clause-below
-link_rows-requires-clause-below c =
-    subst (λ (g : Graph). (i x : ℕ) → HasEdge g i x → x < length c.args.design.now.processes) (sym c.as_slice.ensures.value)
-    c.requires.owners.bits_below
+link_rows-requires-clause-below c = c.requires.owners.bits_below
 
 pub link_rows-requires-2-clause-inside : goal.link_rows-requires-2-clause-inside
 link_rows-requires-2-clause-inside c =
@@ -55,12 +52,10 @@ link_rows-requires-2-clause-inside c =
     c.columns_of-columns.ensures ∙ ap (λ (slots : List Slot). columns_of slots s) slots in
     let i : IsInside c.columns_of-columns.result (before wide o.slots.items (length o.slots.items)) =
     columns_inside d o c.requires.owners s c.requires.span c.args.q c.columns_of-columns.result columns in
-    omega (arith, i.below, c.requires.owners.table.whole, ap (λ (g : Graph). length g) c.as_slice-2.ensures.value)
+    omega (arith, i.below, c.requires.owners.table.whole)
 
 pub link_rows-requires-2-clause-below : goal.link_rows-requires-2-clause-below
-link_rows-requires-2-clause-below c =
-    subst (λ (g : Graph). (i x : ℕ) → HasEdge g i x → x < length c.args.design.now.processes) (sym c.as_slice-2.ensures.value)
-    c.requires.owners.whole_below
+link_rows-requires-2-clause-below c = c.requires.owners.whole_below
 
 pub returns : goal.returns
 returns c =
@@ -75,7 +70,7 @@ returns c =
     let one : IsOfWord s = omega (arith, c.requires.one) in
     span_word d o c.requires.owners s c.requires.span c.args.q one c.args.next.now.items c.link_rows.new.next.items
     c.link_rows-2.new.next.items
-    (rows_are d c.as_slice.result.now o.bits.items c.bits_of-bits.result (bits_of (slots_of d) s) c.args.q c.args.next.now.items
-    c.link_rows.new.next.items c.as_slice.ensures.value bits c.in_ok-link_rows.ensures)
-    (rows_are d c.as_slice-2.result.now o.whole.items c.columns_of-columns.result (columns_of (slots_of d) s) c.args.q c.link_rows.new.next.items
-    c.link_rows-2.new.next.items c.as_slice-2.ensures.value columns c.in_ok-link_rows-2.ensures)
+    (rows_are d o.bits o.bits c.bits_of-bits.result (bits_of (slots_of d) s) c.args.q c.args.next.now.items
+    c.link_rows.new.next.items refl bits c.in_ok-link_rows.ensures)
+    (rows_are d o.whole o.whole c.columns_of-columns.result (columns_of (slots_of d) s) c.args.q c.link_rows.new.next.items
+    c.link_rows-2.new.next.items refl columns c.in_ok-link_rows-2.ensures)

@@ -5,14 +5,14 @@ use Rattle.flow_hubs.proofs.Growing.{adds_none, adds_as, adds_more}
 use Rattle.flow_edges.proofs.lists.note_all.Goals as goal
 
 pub loop-at-init : goal.loop-at-init
-loop-at-init c = adds_none c.args.rows.now.items (λ i x. IsAmong (record { from = c.args.among.from; to = c.args.among.from }) i × (x ≡ c.args.number))
+loop-at-init c = adds_none c.args.rows.now (λ i x. IsAmong (record { from = c.args.among.from; to = c.args.among.from }) i × (x ≡ c.args.number))
     (λ i x r. absurd (omega (arith, r.0.from, r.0.to)))
 
 pub note-requires : goal.note-requires
 note-requires c = omega (arith, c.loop-at.invariant.as_many, c.requires.inside)
 
 pub loop-at-preserved : goal.loop-at-preserved
-loop-at-preserved c = adds_more c.args.rows.now.items c.loop-at.rows.items c.note.new.rows.items
+loop-at-preserved c = adds_more c.args.rows.now c.loop-at.rows c.note.new.self
     (λ i x. IsAmong (record { from = c.args.among.from; to = c.loop-at.at }) i × (x ≡ c.args.number))
     (λ i x. (i ≡ c.loop-at.at) × (x ≡ c.args.number))
     (λ i x. IsAmong (record { from = c.args.among.from; to = c.loop-at.at + 1 }) i × (x ≡ c.args.number))
@@ -25,7 +25,7 @@ loop-at-preserved c = adds_more c.args.rows.now.items c.loop-at.rows.items c.not
     ])
 
 pub returns : goal.returns
-returns c = adds_as c.args.rows.now.items c.loop-at.rows.items
+returns c = adds_as c.args.rows.now c.loop-at.rows
     (λ i x. IsAmong (record { from = c.args.among.from; to = c.loop-at.at }) i × (x ≡ c.args.number))
     (λ i x. IsAmong c.args.among i × (x ≡ c.args.number))
     c.loop-at.invariant

@@ -41,9 +41,9 @@ returns-then-span c =
     notes_word c.args.owners.now
     (record { slots = c.args.owners.now.slots; bits = c.note_all-then-span.new.rows; whole = c.args.owners.now.whole; columns = c.note_all.new.rows })
     c.args.span c.args.p refl refl (omega (arith, c.if-span.true))
-    (subst (λ (r : Stretch). Adds c.args.owners.now.bits.items c.note_all-then-span.new.rows.items (λ i x. IsAmong r i × (x ≡ c.args.p))) bits
+    (subst (λ (r : Stretch). Adds c.args.owners.now.bits c.note_all-then-span.new.rows (λ i x. IsAmong r i × (x ≡ c.args.p))) bits
     c.in_ok-note_all-2.ensures)
-    (subst (λ (r : Stretch). Adds c.args.owners.now.columns.items c.note_all.new.rows.items (λ i x. IsAmong r i × (x ≡ c.args.p))) columns
+    (subst (λ (r : Stretch). Adds c.args.owners.now.columns c.note_all.new.rows (λ i x. IsAmong r i × (x ≡ c.args.p))) columns
     c.in_ok-note_all.ensures)
 
 pub returns : goal.returns
@@ -53,7 +53,7 @@ returns c =
     notes_whole c.args.owners.now
     (record { slots = c.args.owners.now.slots; bits = c.args.owners.now.bits; whole = c.note_all-2.new.rows; columns = c.note_all.new.rows })
     c.args.span c.args.p refl refl (λ one. absurd (omega (arith, c.if-span.false, one)))
-    (subst (λ (r : Stretch). Adds c.args.owners.now.whole.items c.note_all-2.new.rows.items (λ i x. IsAmong r i × (x ≡ c.args.p))) columns
+    (subst (λ (r : Stretch). Adds c.args.owners.now.whole c.note_all-2.new.rows (λ i x. IsAmong r i × (x ≡ c.args.p))) columns
     c.in_ok-note_all-3.ensures)
-    (subst (λ (r : Stretch). Adds c.args.owners.now.columns.items c.note_all.new.rows.items (λ i x. IsAmong r i × (x ≡ c.args.p))) columns
+    (subst (λ (r : Stretch). Adds c.args.owners.now.columns c.note_all.new.rows (λ i x. IsAmong r i × (x ≡ c.args.p))) columns
     c.in_ok-note_all.ensures)
