@@ -48,7 +48,8 @@ not_past a b h = elim (first_or_rest a.var b.var _ h) [
 ]
 
 -- what stands between two entries of one word is of that word
-pub between : (a b c : ToggleEntry) → IsBefore (toggle_place a) (toggle_place b) → IsBefore (toggle_place b) (toggle_place c) → AreOfOneWord a c → AreOfOneWord a b
+pub between : (a b c : ToggleEntry) → IsBefore (toggle_place a) (toggle_place b) → IsBefore (toggle_place b) (toggle_place c) → AreOfOneWord a c
+    → AreOfOneWord a b
 between a b c h k same = record { var = var; word = omega (arith, ab.words var, bc.words (sym var ∙ same.var), same.word) }
   where
     ab : IsNotPast a b
@@ -70,4 +71,12 @@ all_between es ascend at last within same k from upto = elim (cases_eq at k) [
         (ascend at k no_entry (omega (arith, from, above)) (omega (arith, upto, within)))
         (ascend k last no_entry (omega (arith, upto, below)) within) same
   ]
+]
+
+-- variables ascend
+pub vars_ascend : (es : List ToggleEntry) → AllPairs (λ a b. IsBefore (toggle_place a) (toggle_place b)) es → (i j : ℕ) → i ≤ j → j < length es
+    → (entry_at es i).var ≤ (entry_at es j).var
+vars_ascend es ascend i j le lt = elim (cases_eq i j) [
+  | inl e ↦ subst (λ j. (entry_at es i).var ≤ (entry_at es j).var) e (omega arith)
+  | inr ne ↦ (not_past (entry_at es i) (entry_at es j) (ascend i j no_entry (omega (arith, le, ne)) lt)).vars
 ]

@@ -1,5 +1,6 @@
 pub mod CountLaws
 pub mod EntryOrder
+pub mod Firsts
 pub mod LineLaws
 pub mod ToggleLaws
 pub mod WordLaws

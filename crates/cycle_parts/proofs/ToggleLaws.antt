@@ -1,15 +1,16 @@
 -- Toggle entries word by word.
 use Rattle.std.proofs.Common.{◌≡◌, ◌∙◌, sym, ap, subst, refl, ℕ, suc, ◌+◌, ◌-◌, ◌<◌, ◌≤◌, ◌^◌, ◌==◌, Bool, true, false, cond, not, List, [], ◌∷◌, ◌++◌, filter}
-use Rattle.std.proofs.Common.{length, map, take, drop, arith}
+use Rattle.std.proofs.Common.{length, map, take, drop, bit_xor, ◌%◌, ◌≢◌, arith}
 use Rattle.std.specs.Prelude.{Some, slice_index, slice_index_or, slice_range}
 use Rattle.std.specs.Int.{bit_at}
 use Rattle.std.proofs.Math.Seq.{take-add}
-use Rattle.std.proofs.lemmas.Bool.{eq-eqb}
+use Rattle.std.proofs.lemmas.Bool.{eq-eqb, ne_eqb}
+use Rattle.std.proofs.lemmas.Nat.Bits.{bit_at-lt, bit_at-zero, bit_at_xor}
 use Rattle.std.proofs.lemmas.List.{take_more, length-take-le, length-drop, get_or-take, get_or-drop, map-append}
 use Rattle.std.proofs.lemmas.List.Elements.{filter-append}
 use Rattle.design_tree.specs.declared.instrumented.ToggleEntry.{ToggleEntry}
-use Rattle.circuit_run.specs.States.{State, held}
-use Rattle.design_meaning.specs.Counters.{HasCounted, is_toggled, toggled}
+use Rattle.circuit_run.specs.States.{State, bit, held}
+use Rattle.design_meaning.specs.Counters.{HasCounted, is_toggled, toggle_bit, toggled}
 use Rattle.cycle_parts.specs.Toggles.{AreOfOneWord, differing, entry_at, no_entry}
 use Rattle.cycle_parts.proofs.CountLaws.{counted_both, counted_least}
 
@@ -57,8 +58,26 @@ same_raised p q (x ∷ es) h = ap (λ b. map (λ e. e.counter) (cond b (x ∷ fi
 abbrev differs : ℕ → ℕ → ToggleEntry → Bool
 differs was is t = not (bit_at was t.bit == bit_at is t.bit)
 
-pub none_differing : (was is : ℕ) (es : List ToggleEntry) → was ≡ is → differing was is es ≡ []
-none_differing was is es e = none_raised (differs was is) es (λ t. ap not (eq-eqb (bit_at was t.bit) (bit_at is t.bit) (ap (λ w. bit_at w t.bit) e)))
+-- by the bits of the exclusive or
+one_of_two : (a b : ℕ) → a < 2 → b < 2 → (a + b) % 2 ≡ 1 → a ≢ b
+one_of_two a b ha hb h e = omega (arith, ha, hb, h, e)
+
+both_or_none : (a b : ℕ) → a < 2 → b < 2 → (a + b) % 2 ≢ 1 → a ≡ b
+both_or_none a b ha hb h = omega (arith, ha, hb, h)
+
+pub apart : (was is k : ℕ) → bit_at (bit_xor was is) k ≡ 1 → not (bit_at was k == bit_at is k) ≡ true
+apart was is k h = ap not (ne_eqb (bit_at was k) (bit_at is k)
+    (one_of_two (bit_at was k) (bit_at is k) (bit_at-lt was k) (bit_at-lt is k) (sym (bit_at_xor was is k) ∙ h)))
+
+pub same_bits : (was is k : ℕ) → bit_at (bit_xor was is) k ≢ 1 → not (bit_at was k == bit_at is k) ≡ false
+same_bits was is k h = ap not (eq-eqb (bit_at was k) (bit_at is k)
+    (both_or_none (bit_at was k) (bit_at is k) (bit_at-lt was k) (bit_at-lt is k) (λ e. h (bit_at_xor was is k ∙ e))))
+
+no_bit : (was is k : ℕ) → bit_at (bit_xor was is) k ≡ 0 → not (bit_at was k == bit_at is k) ≡ false
+no_bit was is k h = same_bits was is k (λ e. omega (arith, h, e))
+
+pub none_differing : (was is : ℕ) (es : List ToggleEntry) → bit_xor was is ≡ 0 → differing was is es ≡ []
+none_differing was is es e = none_raised (differs was is) es (λ t. no_bit was is t.bit (ap (λ w. bit_at w t.bit) e ∙ bit_at-zero t.bit))
 
 no_more : (xs : List ℕ) → xs ++ [] ≡ xs
 no_more [] = refl
@@ -66,22 +85,32 @@ no_more (x ∷ xs) = ap (λ l. x ∷ l) (no_more xs)
 
 module _ (was is : ℕ) (es : List ToggleEntry) (i : ℕ) (x : ToggleEntry) (lt : i < length es) (e : x ≡ slice_index_or es i x) where
   next : (b : Bool) → differs was is x ≡ b → differing was is (take (i + 1) es) ≡ differing was is (take i es) ++ cond b (x.counter ∷ []) []
-  next b eb = ap (raised_where (differs was is)) (take_more es i x lt ∙ ap (λ y. take i es ++ y ∷ []) (sym e)) ∙ raised_both (differs was is) (take i es) (x ∷ [])
+  next b eb = ap (raised_where (differs was is)) (take_more es i x lt ∙ ap (λ y. take i es ++ y ∷ []) (sym e))
+      ∙ raised_both (differs was is) (take i es) (x ∷ [])
       ∙ ap (λ l. differing was is (take i es) ++ l) (raised_one (differs was is) x b eb)
 
   pub differing_here : (a b c : List ℕ) → differs was is x ≡ true → HasCounted a (differing was is (take i es)) b → HasCounted b (x.counter ∷ []) c
       → HasCounted a (differing was is (take (i + 1) es)) c
   differing_here a b c h ha hb = subst (λ r. HasCounted a r c) (sym (next true h)) (counted_both a b c (differing was is (take i es)) (x.counter ∷ []) ha hb)
 
-  pub same_here : (a b : List ℕ) → differs was is x ≡ false → HasCounted a (differing was is (take i es)) b → HasCounted a (differing was is (take (i + 1) es)) b
+  pub same_here : (a b : List ℕ) → differs was is x ≡ false → HasCounted a (differing was is (take i es)) b
+      → HasCounted a (differing was is (take (i + 1) es)) b
   same_here a b h ha = subst (λ r. HasCounted a r b) (sym (next false h ∙ no_more (differing was is (take i es)))) ha
 
 pub room_for_entry : (was is : ℕ) (a b : List ℕ) (es : List ToggleEntry) (i k : ℕ) → ((k : ℕ) → slice_index a k + length es < 2 ^ 64) → i < length es
     → HasCounted a (differing was is (take i es)) b → slice_index b k + 1 < 2 ^ 64
 room_for_entry was is a b es i k fit lt h =
-    omega (arith, fit k, lt, counted_least a (differing was is (take i es)) b k h, few_raised (differs was is) (take i es), length-take-le i es (omega (arith, lt)))
+    let few = few_raised (differs was is) (take i es) in
+    omega (arith, fit k, lt, counted_least a (differing was is (take i es)) b k h, few, length-take-le i es (omega (arith, lt)))
 
 -- ---- the words one after the other
+
+-- entries whose bit is the same in both states raise nothing
+no_toggles : (s t : State) (es : List ToggleEntry) → ((k : ℕ) → k < length es → is_toggled s t (entry_at es k) ≡ false) → toggled (Some s) t es ≡ []
+no_toggles s t es h = same_raised (is_toggled s t) (λ e. false) es h ∙ none_raised (λ e. false) es (λ e. refl)
+
+untoggled : (s t : State) (e : ToggleEntry) → held t e.var ≡ held s e.var → is_toggled s t e ≡ false
+untoggled s t e same = ap not (eq-eqb (bit s (toggle_bit e)) (bit t (toggle_bit e)) (sym (ap (λ w. bit_at (slice_index w.words e.word) e.bit) same)))
 
 pub length_range : (es : List ToggleEntry) (i j : ℕ) → i ≤ j → j ≤ length es → length (slice_range es i j) ≡ j - i
 length_range es i j le within = length-take-le (j - i) (drop i es) (omega (arith, length-drop i es, le, within))
@@ -143,3 +172,20 @@ module _ (s t : State) (es : List ToggleEntry) (i j : ℕ) (less : i < j) (withi
         length-take-le i es (omega (arith, less, within)),
         length_range es i j (omega (arith, less)) within,
       )
+
+-- ---- entries that are passed over
+
+pub passed : (s t : State) (es : List ToggleEntry) (i j : ℕ) (a b : List ℕ) → i ≤ j → j ≤ length es
+    → ((k : ℕ) → i ≤ k → k < j → held t (entry_at es k).var ≡ held s (entry_at es k).var)
+    → HasCounted a (toggled (Some s) t (take i es)) b → HasCounted a (toggled (Some s) t (take j es)) b
+passed s t es i j a b le within same h = subst (λ r. HasCounted a r b) (sym all) h
+  where
+    none : toggled (Some s) t (slice_range es i j) ≡ []
+    none = no_toggles s t (slice_range es i j) (λ k lt.
+        let here : k < j - i = omega (arith, lt, length_range es i j le within) in
+        subst (λ x. is_toggled s t x ≡ false) (sym (in_range es i j k le here))
+        (untoggled s t (entry_at es (i + k)) (same (i + k) (omega arith) (omega (arith, here)))))
+
+    all : toggled (Some s) t (take j es) ≡ toggled (Some s) t (take i es)
+    all = ap (raised_where (is_toggled s t)) (take_range es i j le) ∙ raised_both (is_toggled s t) (take i es) (slice_range es i j)
+        ∙ ap (λ r. toggled (Some s) t (take i es) ++ r) none ∙ no_more (toggled (Some s) t (take i es))

@@ -1,17 +1,18 @@
 -- States word by word.
-use Rattle.std.proofs.Common.{◌≡◌, ◌≢◌, ◌∙◌, sym, ap, ap₂, subst, refl, ℕ, zero, suc, ◌<◌, ◌≤◌, ◌*◌, ◌+◌, ◌^◌, ◌⊎◌, inl, inr, List, [], ◌∷◌, length, map, arith}
+use Rattle.std.proofs.Common.{◌≡◌, ◌≢◌, ◌∙◌, sym, ap, subst, refl, ℕ, zero, suc, ◌<◌, ◌≤◌, ◌*◌, ◌+◌, ◌^◌, ◌⊎◌, inl, inr, List, [], ◌∷◌, length, map, arith}
 use Rattle.std.specs.Prelude.{All, slice_index, slice_index_or, slice_set, Contains}
 use Rattle.std.proofs.lemmas.Bool.{cases_eq, cases_lt}
 use Rattle.std.proofs.lemmas.List.{get_or-set_same, get_or-set_other, length-set, ext_get_or, get_or_default, get_or-map, length-map, get_or_past}
 use Rattle.cov_types.specs.declared.var.Var.{Var}
 use Rattle.design_tree.specs.declared.design.Input.{Input}
 use Rattle.design_tree.specs.declared.design.Design.{Design}
-use Rattle.circuit_run.specs.States.{State, VarWords, no_words, no_var, AreWordsOf, held}
+use Rattle.circuit_run.specs.States.{State, VarWords, no_words, AreWordsOf, held}
 use Rattle.design_meaning.specs.States.{IsStateOf, var_of}
 use Rattle.design_meaning.specs.Settled.{inputs_in}
 use Rattle.design_meaning.specs.SettledLaws.{IsRow}
 use Rattle.design_meaning.specs.Circuit.{input_vars}
 use Rattle.design_meaning.specs.ValidVariables.{AreInputs}
+use Rattle.design_state.specs.Shapes.{HaveOneShape}
 
 -- ---- one word written
 
@@ -44,49 +45,22 @@ write_keeps d s v w n h here small = record { as_many = length-set s v changed �
     each : (u : ℕ) → u < length d.vars → AreWordsOf (var_of d u) (held (slice_set s v changed) u)
     each u lt = elim (cases_eq v u) [
       | inl e ↦ subst (λ u. AreWordsOf (var_of d u) (held (slice_set s v changed) u)) e
-          (subst (AreWordsOf (var_of d v)) (sym (get_or-set_same s v changed no_words (omega (arith, here, h.as_many)))) (word_set (var_of d v) (held s v) w n small (h.each v here)))
+          (subst (AreWordsOf (var_of d v)) (sym (get_or-set_same s v changed no_words (omega (arith, here, h.as_many))))
+          (word_set (var_of d v) (held s v) w n small (h.each v here)))
       | inr ne ↦ subst (AreWordsOf (var_of d u)) (sym (get_or-set_other s v u changed no_words (λ e. ne (sym e)))) (h.each u lt)
     ]
 
--- ---- copies
+-- ---- states of one design
 
--- the first so many words of a variable are copied, and no other variable is changed
-pub record IsCopied (d : Design) (v n : ℕ) (from old new : State) : Type 0 where
-  pub of : IsStateOf d new
-  pub words : (k : ℕ) → k < n → slice_index (held new v).words k ≡ slice_index (held from v).words k
-  pub others : (u : ℕ) → u ≢ v → held new u ≡ held old u
-
-pub one_copied : (d : Design) (v n : ℕ) (from old new : State) (x : ℕ) → v < length d.vars → IsStateOf d from → n < (var_of d v).words
-    → x ≡ slice_index (held from v).words n → x < 2 ^ (held from v).width
-    → IsCopied d v n from old new → IsCopied d v (n + 1) from old (word_written new v n x)
-one_copied d v n from old new x here hf lt e small h = record {
-  of = write_keeps d new v n x h.of here (subst (λ w. x < 2 ^ w) ((hf.each v here).as_wide ∙ sym (h.of.each v here).as_wide) small);
-  words = λ k l. elim (cases_eq n k) [
-    | inl same ↦ subst (λ k. slice_index (held (word_written new v n x) v).words k ≡ slice_index (held from v).words k) same
-        (ap (λ y. slice_index y.words n) (this_held new v n x in_new)
-        ∙ get_or-set_same (held new v).words n x 0 (omega (arith, lt, (h.of.each v here).as_many)) ∙ e)
-    | inr ne ↦ ap (λ y. slice_index y.words k) (this_held new v n x in_new) ∙ get_or-set_other (held new v).words n k x 0 (λ e. ne (sym e))
-        ∙ h.words k (omega (arith, l, ne))
-  ];
-  others = λ u ne. other_held new v n x u ne ∙ h.others u ne;
+pub one_shape : (d : Design) (s t : State) → IsStateOf d s → IsStateOf d t → HaveOneShape s t
+one_shape d s t h k = record {
+  variables = h.as_many ∙ sym k.as_many;
+  widths = λ v lt. (h.each v (here v lt)).as_wide ∙ sym (k.each v (here v lt)).as_wide;
+  words = λ v lt. (h.each v (here v lt)).as_many ∙ sym (k.each v (here v lt)).as_many;
 }
   where
-    in_new : v < length new
-    in_new = omega (arith, here, h.of.as_many)
-
-pub all_copied : (d : Design) (v n : ℕ) (from old new : State) → v < length d.vars → IsStateOf d from → (var_of d v).words ≤ n → IsCopied d v n from old new
-    → held new v ≡ held from v
-all_copied d v n from old new here hf past h =
-    let a : AreWordsOf (var_of d v) (held new v) = h.of.each v here in
-    let b : AreWordsOf (var_of d v) (held from v) = hf.each v here in
-    same (held new v) (held from v) (a.as_wide ∙ sym b.as_wide)
-    (ext_get_or 0 (held new v).words (held from v).words (a.as_many ∙ sym b.as_many) (λ k lt. h.words k (omega (arith, lt, past, a.as_many))))
-  where
-    same : (x y : VarWords) → x.width ≡ y.width → x.words ≡ y.words → x ≡ y
-    same x y e f = ap₂ (λ w ws. record { width = w; words = ws }) e f
-
-pub same_states : (d : Design) (s t : State) → IsStateOf d s → IsStateOf d t → ((v : ℕ) → v < length d.vars → held s v ≡ held t v) → s ≡ t
-same_states d s t hs ht h = ext_get_or no_words s t (hs.as_many ∙ sym ht.as_many) (λ v lt. h v (omega (arith, lt, hs.as_many)))
+    here : (v : ℕ) → v < length s → v < length d.vars
+    here v lt = omega (arith, lt, h.as_many)
 
 -- ---- inputs
 
@@ -161,8 +135,3 @@ pub var_at : (d : Design) (inputs : List Input) (n : ℕ) (x : Input) → inputs
     → x.var ≡ input_at d n
 var_at d inputs n x e lt is = ap (λ input. input.var) is ∙ sym (get_or-map (λ input. input.var) inputs n x 0 lt)
     ∙ ap (λ l. slice_index (map (λ input. input.var) l) n) e
-
--- all words of a variable have been gone over
-pub past_words : (d : Design) (v n : ℕ) (vars : List Var) (x : Var) → vars ≡ d.vars → v < length d.vars → (slice_index_or vars v x).words ≤ n
-    → (var_of d v).words ≤ n
-past_words d v n vars x e lt le = subst (λ y. y.words ≤ n) (ap (λ l. slice_index_or l v x) e ∙ get_or_default d.vars v x no_var lt) le

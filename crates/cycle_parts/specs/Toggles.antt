@@ -1,5 +1,5 @@
--- Private: toggle entries by the words that their bits are of.
-use Rattle.std.specs.Prelude.{◌≡◌, ℕ, List, ◌==◌, not, filter, map, slice_index_or}
+-- Toggle entries by the words that their bits are of, and by their variables.
+use Rattle.std.specs.Prelude.{◌≡◌, ℕ, ◌<◌, ◌≤◌, List, ◌==◌, not, filter, length, map, slice_index_or}
 use Rattle.std.specs.Int.{bit_at}
 use Rattle.design_tree.specs.declared.instrumented.ToggleEntry.{ToggleEntry}
 
@@ -18,3 +18,10 @@ pub record AreOfOneWord (a b : ToggleEntry) : Type 0 where
 -- the counters of the entries whose bit differs in two values of their word
 abbrev pub differing : ℕ → ℕ → List ToggleEntry → List ℕ
 differing was is entries = map (λ t. t.counter) (filter (λ t. not (bit_at was t.bit == bit_at is t.bit)) entries)
+
+-- for each variable the number of entries of the variables before it
+pub record AreFirsts (vars : ℕ) (entries : List ToggleEntry) (firsts : List ℕ) : Type 0 where
+  pub as_many : length firsts ≡ vars
+  pub within : (v : ℕ) → slice_index_or firsts v 0 ≤ length entries
+  pub below : (v k : ℕ) → v < vars → k < slice_index_or firsts v 0 → (entry_at entries k).var < v
+  pub from : (v k : ℕ) → v < vars → slice_index_or firsts v 0 ≤ k → k < length entries → v ≤ (entry_at entries k).var

@@ -13,4 +13,4 @@ pub use count::raise;
 pub use inputs::take_inputs;
 pub use outputs::{OUTPUT_COLUMNS, put_outputs, put_text};
 pub use raised::Raised;
-pub use toggle::raise_toggled;
+pub use toggle::{first_entries, raise_toggled};

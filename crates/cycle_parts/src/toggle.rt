@@ -1,14 +1,19 @@
-ghost use Rattle.std.specs.Prelude.{◌≡◌, ℕ, ◌≤◌, ◌<◌, ◌+◌, ◌^◌, Some, true, All, length, slice_index};
+ghost use Rattle.std.specs.Prelude.{◌≡◌, ℕ, ◌≤◌, ◌<◌, ◌+◌, ◌^◌, Some, true, false, All, IfOk, length, slice_index};
 ghost use Rattle.std.specs.Int.{bit_at};
+ghost use Rattle.circuit_run.specs.States.{held};
 ghost use Rattle.design_meaning.specs.Counters.{HasCounted, toggled};
 ghost use Rattle.design_meaning.specs.States.{IsStateOf};
 ghost use Rattle.design_meaning.specs.Valid.{AreToggles};
 ghost use Rattle.design_meaning.specs.ValidVariables.{IsVariable};
-ghost use Rattle.cycle_parts.specs.Toggles.{AreOfOneWord, differing, entry_at};
+ghost use Rattle.place_marks.specs.Marked.{is_marked};
+ghost use Rattle.cycle_parts.specs.Toggles.{AreFirsts, AreOfOneWord, differing, entry_at};
 
 use crate::count::raise_one;
+use cov_types::NoMemory;
 use design_state::State;
 use design_tree::{Instrumented, ToggleEntry};
+use place_marks::PlaceMarks;
+use std::alloc::Global;
 
 /// Whether two entries are of bits of one word.
 fn are_of_one_word(a: &ToggleEntry, b: &ToggleEntry) -> bool
@@ -49,33 +54,103 @@ fn raise_word(entries: &[ToggleEntry], was: u128, is: u128, counts: &mut [u64])
     requires fit { (k : ℕ) → slice_index counts.old k + length entries.now < 2 ^ 64 }
     ensures { HasCounted counts.old (differing was is entries.now) counts.new }
 {
-    if was == is {
+    let differing = was ^ is;
+    if differing == 0 {
         return;
     }
     for entry in entries {
-        if bit_of(was, entry.bit) != bit_of(is, entry.bit) {
+        if bit_of(differing, entry.bit) == 1 {
             raise_one(counts, entry.counter);
         }
     }
 }
 
-/// Raises the counters of the toggle entries whose bit differs in two settled states. Of a word that is the same in both no bit is looked at.
-pub fn raise_toggled(x: &Instrumented, before: &State, now: &State, counts: &mut [u64])
+/// The first entry from one on that is of a variable from a number on.
+fn first_from(entries: &[ToggleEntry], at: usize, var: usize) -> usize
+    requires { at ≤ length entries.now }
+    ensures from { at ≤ result }
+    ensures within { result ≤ length entries.now }
+    ensures below { (k : ℕ) → at ≤ k → k < result → (entry_at entries.now k).var < var }
+    ensures end { result < length entries.now → var ≤ (entry_at entries.now result).var }
+{
+    let mut end = at;
+    'entries: while end < entries.len() && (entries[end].var as usize) < var {
+        end += 1;
+    }
+    end
+}
+
+/// For each variable the number of toggle entries of the variables before it.
+pub fn first_entries(alloc: Global, x: &Instrumented) -> Result<Vec<usize>, NoMemory>
+    requires { AreToggles x.now }
+    ensures { IfOk result (λ firsts. AreFirsts (length x.now.design.vars) x.now.toggles firsts.items) }
+{
+    let entries = x.toggles.as_slice();
+    let mut firsts = Vec::new(alloc);
+    let mut at = 0;
+    for var in 0..x.design.vars.as_slice().len() {
+        at = first_from(entries, at, var);
+        firsts.push(at)?;
+    }
+    Ok(firsts)
+}
+
+/// The first entry from one on whose variable may have changed, and the end where there is none.
+fn next_changed(x: &Instrumented, firsts: &[usize], changed: &PlaceMarks, at: usize) -> usize
+    requires toggles { AreToggles x.now }
+    requires firsts { AreFirsts (length x.now.design.vars) x.now.toggles firsts.now }
+    requires here { at < length x.now.toggles }
+    ensures from { at ≤ result }
+    ensures within { result ≤ length x.now.toggles }
+    ensures unchanged { (k : ℕ) → at ≤ k → k < result → is_marked changed.now (entry_at x.now.toggles k).var ≡ false }
+{
+    let entries = x.toggles.as_slice();
+    let var = entries[at].var as usize;
+    match changed.next(var) {
+        Some(next) => {
+            if next == var {
+                return at;
+            }
+            if next < firsts.len() {
+                return firsts[next];
+            }
+            entries.len()
+        }
+        None => entries.len(),
+    }
+}
+
+/// Raises the counters of the toggle entries whose bit differs in two settled states. Only entries of variables that are
+/// marked as changed are looked at, and of a word that is the same in both no bit.
+pub fn raise_toggled(
+    x: &Instrumented,
+    firsts: &[usize],
+    changed: &PlaceMarks,
+    before: &State,
+    now: &State,
+    counts: &mut [u64],
+)
     requires variables { All IsVariable x.now.design.vars }
     requires toggles { AreToggles x.now }
+    requires firsts { AreFirsts (length x.now.design.vars) x.now.toggles firsts.now }
     requires before { IsStateOf x.now.design before.now }
     requires now { IsStateOf x.now.design now.now }
+    requires unchanged { (v : ℕ) → v < length x.now.design.vars → is_marked changed.now v ≡ false → held now.now v ≡ held before.now v }
     requires fit { (k : ℕ) → slice_index counts.old k + length x.now.toggles < 2 ^ 64 }
     ensures { HasCounted counts.old (toggled (Some before.now) now.now x.now.toggles) counts.new }
 {
     let entries = x.toggles.as_slice();
     let mut at = 0;
     'words: while at < entries.len() {
-        let entry = &entries[at];
-        let end = word_end(x, at);
+        let from = next_changed(x, firsts, changed, at);
+        if from == entries.len() {
+            return;
+        }
+        let entry = &entries[from];
+        let end = word_end(x, from);
         let was = before.read(entry.var, entry.word);
         let is = now.read(entry.var, entry.word);
-        raise_word(&entries[at..end], was, is, counts);
+        raise_word(&entries[from..end], was, is, counts);
         at = end;
     }
 }

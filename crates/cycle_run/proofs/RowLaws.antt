@@ -49,4 +49,5 @@ module _ (d : Design) (r t : State) (others : KeepsOthers d r t) where
 
 pub row_settles : (d : Design) (order : List ℕ) (r t : State) (row : List ℕ) → IsValidDesign d → Flows d → IsOrder d order → IsStateOf d r → IsRow d row
     → KeepsOthers d r t → IsStateOf d t → inputs_in d t ≡ row → ((b : Bit) → IsUndrivenBit d b → bit r b ≡ 0) → IsSettled d r row (after_all d order t)
-row_settles d order r t row valid flows io hr hrow others ht inputs none = orders_settle d order valid flows io r row t hr hrow (agrees d r t others row ht inputs none)
+row_settles d order r t row valid flows io hr hrow others ht inputs none = orders_settle d order valid flows io r row t hr hrow
+    (agrees d r t others row ht inputs none)

@@ -59,7 +59,8 @@ starts x s after old counts text end is zeros left counted printed ends =
       is_start = is;
       registers = left ∙ ap (λ o. all_written o.state o.updates) e;
       unsettled = refl;
-      counted = subst (λ r. HasCounted (replicate x.counters 0) r counts) (ap (λ o. o.notes) e) (subst (λ o. HasCounted o (turns is_initial x.design s).notes counts) zeros counted);
+      counted = subst (λ r. HasCounted (replicate x.counters 0) r counts) (ap (λ o. o.notes) e)
+          (subst (λ o. HasCounted o (turns is_initial x.design s).notes counts) zeros counted);
       printed = printed ∙ ap (λ o. o.text) e;
       ends = ends ∙ ap (λ o. end_of o.finished o.stopped) e;
     }
@@ -86,7 +87,15 @@ pub counted_cycle : (old mid new comb edge toggles : List ℕ) → HasCounted ol
     → HasCounted old ((comb ++ edge) ++ toggles) new
 counted_cycle old mid new comb edge toggles h i = record {
   as_many = i.as_many ∙ h.as_many;
-  each = λ k lt. omega (arith, h.each k lt, i.each k (omega (arith, lt, h.as_many)), how_many_both k comb toggles, how_many_both k comb edge, how_many_both k (comb ++ edge) toggles);
+  each = λ k lt. omega (
+    arith,
+    h.each k lt,
+    i.each k (omega (arith, lt, h.as_many)),
+    how_many_both k comb toggles,
+    how_many_both k comb edge,
+    how_many_both k
+        (comb ++ edge) toggles,
+  );
 }
 
 pub cycles : (x : Instrumented) (first : Bool) (r before s after : State) (row old mid new text : List ℕ) (end : End) → IsValidDesign x.design
@@ -96,7 +105,8 @@ pub cycles : (x : Instrumented) (first : Bool) (r before s after : State) (row o
     → HasCounted mid (turns runs_at_edge x.design s).notes new
     → text ≡ output_line x.design.outputs s ++ (turns runs_at_edge x.design s).text
     → end ≡ end_of (turns runs_at_edge x.design s).finished (turns runs_at_edge x.design s).stopped
-    → IsCycle x (record { registers = r; last_settled = settled_before first before; counts = old }) row (record { registers = after; last_settled = Some s; counts = new }) text end
+    → IsCycle x (record { registers = r; last_settled = settled_before first before; counts = old }) row
+    (record { registers = after; last_settled = Some s; counts = new }) text end
 cycles x first r before s after row old mid new text end valid flows settled first_counted left then_counted printed ends =
     let o : Outcome ℕ = turns runs_at_edge x.design s in
     let edge : IsEdgeOutcome x.design s o = edge_in_turn x.design s valid flows settled.agrees.is_state in
@@ -104,7 +114,8 @@ cycles x first r before s after row old mid new text end valid flows settled fir
       cycle = cycle_on (circuit_of x.design) s;
       is_cycle = record { settled = settled; edge = subst (λ t. IsEdge (circuit_of x.design) s t) (sym left) edge.edge; on = refl };
       kept = refl;
-      counted = counted_cycle old mid new (comb_raised x.design s) (edge_notes (circuit_of x.design) s) (toggled (settled_before first before) s x.toggles) first_counted
+      counted = counted_cycle old mid new (comb_raised x.design s) (edge_notes (circuit_of x.design) s) (toggled (settled_before first before) s x.toggles)
+          first_counted
           (subst (λ r. HasCounted mid r new) edge.raised then_counted);
       printed = printed ∙ ap (λ t. output_line x.design.outputs s ++ t) edge.text;
       ends = ends ∙ ap₂ end_of edge.finished edge.stopped;

@@ -59,7 +59,8 @@ room_here d n lt = ap (λ ps. (rooms d ps).counters) (drop_more d.processes n no
 pub can_raise : (d : Design) (kept : List Raised) (n : ℕ) (old new : List ℕ) → n < length d.processes → AreFew d kept → IsTrue (is_comb (kind_of d n))
     → CanRaise old (room_of_all d).counters
     → Counted d kept n old new → (k : ℕ) → slice_index new k + length (kept_of kept n).counters < 2 ^ 64
-can_raise d kept n old new lt few c fit h k = omega (arith, fit k, counted_least old (kept_below d kept n) new k h.counted, h.within, room_here d n lt, few.few n lt c)
+can_raise d kept n old new lt few c fit h k = omega
+    (arith, fit k, counted_least old (kept_below d kept n) new k h.counted, h.within, room_here d n lt, few.few n lt c)
 
 pub one_counted : (d : Design) (kept : List Raised) (n : ℕ) (old mid new : List ℕ) → n < length d.processes → AreFew d kept → is_comb (kind_of d n) ≡ true
     → Counted d kept n old mid → HasCounted mid (kept_of kept n).counters new → Counted d kept (n + 1) old new
@@ -159,7 +160,8 @@ comb_room d s kept (suc n) few le = subst (λ m. length (kept_below d kept (suc 
     one n = omega arith
 
 pub comb_few : (d : Design) (s : State) (kept : List Raised) → AreFew d kept → AreRaised d s kept → length (comb_raised d s) ≤ (room_of_all d).counters
-comb_few d s kept few are = omega (arith, comb_room d s kept (length d.processes) few (omega arith), ap length (below_is d s kept are (length d.processes) (omega arith) ∙ comb_is d s))
+comb_few d s kept few are = omega
+    (arith, comb_room d s kept (length d.processes) few (omega arith), ap length (below_is d s kept are (length d.processes) (omega arith) ∙ comb_is d s))
 
 -- no more is kept of a process than a run raises
 pub are_few : (d : Design) (s : State) (kept : List Raised) → IsValidDesign d → IsStateOf d s → length kept ≡ length d.processes → AreRaised d s kept

@@ -83,7 +83,9 @@ module _ (d : Design) where
       equal_less e = cc e
 
       in_words : (a b : ToggleEntry) → IsBitOf d (toggle_bit a) → a.var ≡ b.var → a.word < b.word → number d.vars a < number d.vars b
-      in_words a b ha e less = omega (arith, ha.in_width, ap (before d.vars) e, row (var_of d a.var).width a.word b.word less, ap (λ v. (var_of d v).width * b.word) e)
+      in_words a b ha e less =
+          let row_ends = row (var_of d a.var).width a.word b.word less in
+          omega (arith, ha.in_width, ap (before d.vars) e, row_ends, ap (λ v. (var_of d v).width * b.word) e)
 
       in_bits : (a b : ToggleEntry) → a.var ≡ b.var → a.word ≡ b.word → a.bit < b.bit → number d.vars a < number d.vars b
       in_bits a b e f less = omega (arith, less, ap (before d.vars) e, ap (λ v. (var_of d v).width * b.word) e, ap (λ w. (var_of d a.var).width * w) f)

@@ -1,17 +1,20 @@
-ghost use Rattle.std.specs.Prelude.{◌≡◌, ◌+◌, ◌++◌, [], Option, None, Some, if◌then◌else◌, length};
+ghost use Rattle.std.specs.Prelude.{◌≡◌, ℕ, ◌+◌, ◌<◌, ◌++◌, false, length};
 ghost use Rattle.circuit_run.specs.Kinds.{is_comb};
-ghost use Rattle.circuit_run.specs.States.{State};
+ghost use Rattle.circuit_run.specs.States.{State, held};
 ghost use Rattle.cycle_settle.specs.Settling.{AreRaised};
 ghost use Rattle.design_meaning.specs.Counters.{HasCounted, toggled};
 ghost use Rattle.design_meaning.specs.States.{IsStateOf};
 ghost use Rattle.design_meaning.specs.Valid.{IsValid};
 ghost use Rattle.flat_design.specs.Effects.{room_of_all};
+ghost use Rattle.place_marks.specs.Marked.{is_marked};
+ghost use Rattle.cycle_parts.specs.Toggles.{AreFirsts};
 ghost use Rattle.cycle_run.specs.Ends.{settled_before};
 ghost use Rattle.cycle_run.specs.Tally.{AreFew, CanRaise, comb_raised};
 
 use cov_types::ProcessKind;
 use cycle_parts::{Raised, raise, raise_toggled};
 use flat_design::{Design, Instrumented, State};
+use place_marks::PlaceMarks;
 
 /// Whether a process of this kind is combinational.
 fn is_combinational(kind: ProcessKind) -> bool
@@ -38,12 +41,16 @@ fn count_kept(design: &Design, kept: &[Raised], counts: &mut [u64])
 pub fn count_settled(
     x: &Instrumented,
     first: bool,
+    firsts: &[usize],
+    changed: &PlaceMarks,
     before: &State,
     now: &State,
     kept: &[Raised],
     counts: &mut [u64],
 )
     requires valid { IsValid x.now }
+    requires firsts { AreFirsts (length x.now.design.vars) x.now.toggles firsts.now }
+    requires changed { first ≡ false → (v : ℕ) → v < length x.now.design.vars → is_marked changed.now v ≡ false → held now.now v ≡ held before.now v }
     requires before { IsStateOf x.now.design before.now }
     requires now { IsStateOf x.now.design now.now }
     requires raised { AreRaised x.now.design now.now kept.now }
@@ -55,5 +62,5 @@ pub fn count_settled(
     if first {
         return;
     }
-    raise_toggled(x, before, now, counts);
+    raise_toggled(x, firsts, changed, before, now, counts);
 }

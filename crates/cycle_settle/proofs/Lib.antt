@@ -1,1 +1,2 @@
 pub mod Middle
+pub mod Waking

@@ -11,6 +11,8 @@ use Rattle.design_meaning.specs.RunLaws.{after}
 use Rattle.flat_design.specs.Effects.{room_of}
 use Rattle.flow_order.specs.Orders.{OrderOf, HasChanged, reads_for}
 use Rattle.cycle_parts.specs.Raised.{Raised, none_raised}
+use Rattle.cycle_wakes.specs.Changes.{Changes, IsNoted, KeepsMarks}
+use Rattle.cycle_wakes.specs.Wakes.{Wakes, targets_of}
 
 -- what is kept of a process
 abbrev pub kept_of : List Raised → ℕ → Raised
@@ -75,3 +77,8 @@ pub record IsSkipped (all : Bool) (order : OrderOf) (p : ℕ) (before old new : 
   pub state : new ≡ old
   pub raised : kept_new ≡ kept
   pub ticked : ticks_new ≡ ticks
+
+-- what it writes has been noted
+pub record HasNoted (w : Wakes) (p : ℕ) (old new : Changes) : Type 0 where
+  pub keeps : KeepsMarks old new
+  pub noted : All (IsNoted w new) (targets_of w p)

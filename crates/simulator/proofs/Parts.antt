@@ -15,6 +15,7 @@ use Rattle.design_meaning.specs.States.{IsStateOf}
 use Rattle.design_meaning.specs.Valid.{IsValidDesign}
 use Rattle.flat_design.specs.Effects.{Effects, room_of_all}
 use Rattle.cycle_parts.specs.Raised.{Raised}
+use Rattle.cycle_wakes.specs.Changes.{Changes, HasRoom}
 use Rattle.cycle_phases.specs.Phases.{turns}
 use Rattle.cycle_settle.specs.Settling.{AreRaised, Follows, HasRooms}
 use Rattle.cycle_run.specs.Ends.{end_seen, settled_before}
@@ -85,6 +86,9 @@ module _ (m : Machine) (now : State) (effects : Effects) (counts : List ℕ) (li
         ap (λ s. bit s b) h.leaves ∙ wires_stay m.design.design is_initial start_writes_regs m.state (valid_design m sound) sound.state sound.undriven b u;
     follows = λ e. absurd (true≢false (sym (ap (λ n. n == 0) fresh.cycles) ∙ e));
     rooms = sound.rooms;
+    wakes = sound.wakes;
+    firsts = sound.firsts;
+    changes = sound.changes;
     room = h.room ∙ sound.room;
     columns = columns_stay _ _ m _ line h.prints sound.columns;
     counters = h.counted.as_many ∙ sound.counters;
@@ -114,6 +118,48 @@ row_counted m row values s kept before mid e f settled raised rooms counted = re
   raised = raised;
   rooms = rooms;
   counted = subst (λ (l : List ℕ). HasCounted l (settled_raises m s) mid) f counted;
+}
+
+-- with other marks of what has changed
+abbrev pub marked : Machine → Changes → Machine
+marked m changes = record m { changes = changes }
+
+pub marked_sound : (m : Machine) (changes : Changes) → IsSound m → HasRoom (length m.order.processes) (length m.design.design.vars) changes
+    → IsSound (marked m changes)
+marked_sound m changes sound room = record {
+  can_run = sound.can_run;
+  state = sound.state;
+  settled = sound.settled;
+  undriven = sound.undriven;
+  follows = sound.follows;
+  rooms = sound.rooms;
+  wakes = sound.wakes;
+  firsts = sound.firsts;
+  changes = room;
+  room = sound.room;
+  columns = sound.columns;
+  counters = sound.counters;
+  raises = sound.raises;
+  few = sound.few;
+  fresh = λ e. record { start = (sound.fresh e).start; counts = (sound.fresh e).counts; cycles = (sound.fresh e).cycles };
+}
+
+-- both stand whatever is marked
+pub marked_count : (m : Machine) (changes : Changes) (row : List ℕ) (s : State) (kept : List Raised) (mid : List ℕ) → IsSettledCount m row s kept mid
+    → IsSettledCount (marked m changes) row s kept mid
+marked_count m changes row s kept mid h = record { settled = h.settled; raised = h.raised; rooms = h.rooms; counted = h.counted }
+
+pub marked_closed : (m : Machine) (changes : Changes) (sort : ProcessKind → Bool) (s : State) (mid text : List ℕ) (now : State) (effects : Effects)
+    (counts : List ℕ) (line : Line) (end : CycleEnd) → IsClosed sort m s mid text now effects counts line end
+    → IsClosed sort (marked m changes) s mid text now effects counts line end
+marked_closed m changes sort s mid text now effects counts line end h = record {
+  leaves = h.leaves;
+  prints = h.prints;
+  counted = h.counted;
+  ends = h.ends;
+  of_design = h.of_design;
+  room = h.room;
+  raised = h.raised;
 }
 
 module _ (m : Machine) (row : List ℕ) (s : State) (kept : List Raised) (mid : List ℕ) (sound : IsSound m) (h : IsSettledCount m row s kept mid) where
@@ -166,6 +212,9 @@ module _ (m : Machine) (row : List ℕ) (s : State) (kept : List Raised) (mid : 
     follows = λ _. subst (λ t. Follows m.design.design s t kept) (sym e.leaves)
         (edge_follows m.design.design m.state s row kept (valid_design m sound) sound.can_run.flows h.settled h.raised);
     rooms = h.rooms;
+    wakes = sound.wakes;
+    firsts = sound.firsts;
+    changes = sound.changes;
     room = e.room ∙ sound.room;
     columns = columns_stay _ _ m _ line e.prints sound.columns;
     counters = e.counted.as_many ∙ h.counted.as_many ∙ sound.counters;

@@ -11,6 +11,7 @@ ghost use Rattle.simulator.specs.Frugal.{IsFrugal};
 use cycle_parts::{Raised, copy_state};
 use cycle_phases::Phase;
 use cycle_run::{CycleEnd, Line, close_phase, count_settled, settle_row};
+use cycle_wakes::{Changes, Wakes};
 use flat_design::{Effects, Instrumented, State, Steps};
 use flow_order::Order;
 use std::marker::Model;
@@ -25,9 +26,12 @@ use stim_lines::Row;
 pub struct Machine<'a> {
     pub(crate) design: &'a Instrumented,
     pub(crate) order: &'a Order,
+    pub(crate) wakes: Wakes,
+    pub(crate) firsts: Vec<usize>,
     pub(crate) state: State,
     pub(crate) settled: State,
     pub(crate) kept: Vec<Raised>,
+    pub(crate) changes: Changes,
     pub(crate) effects: Effects,
     pub(crate) counts: Vec<u64>,
     pub(crate) line: Line,
@@ -45,7 +49,7 @@ impl<'a> Model for Machine<'a> {
 
     ghost coded = { Prim.hlevel (codes, step.the_row.coded) };
 
-    ghost view = { λ m. record { design = m.design.now; order = m.order.now; state = m.state; settled = m.settled; kept = m.kept.items; effects = m.effects; counts = m.counts.items; line = m.line; cycles = m.cycles; end = m.end; started = m.started } };
+    ghost view = { λ m. record { design = m.design.now; order = m.order.now; wakes = m.wakes; firsts = m.firsts.items; state = m.state; settled = m.settled; kept = m.kept.items; changes = m.changes; effects = m.effects; counts = m.counts.items; line = m.line; cycles = m.cycles; end = m.end; started = m.started } };
 }
 
 impl<'a> Machine<'a> {
@@ -96,17 +100,21 @@ impl<'a> Machine<'a> {
         settle_row(
             &self.design.design,
             self.order,
+            &self.wakes,
             first,
             row.values.as_slice(),
             &self.settled,
             &mut self.state,
             &mut self.effects,
             self.kept.as_mut_slice(),
+            &mut self.changes,
             steps,
         );
         count_settled(
             self.design,
             first,
+            self.firsts.as_slice(),
+            self.changes.vars(),
             &self.settled,
             &self.state,
             self.kept.as_slice(),

@@ -7,9 +7,10 @@ ghost use Rattle.simulator.specs.Machines.{CanRun, IsSound};
 
 use crate::machine::Machine;
 use cov_types::NoMemory;
-use cycle_parts::{OUTPUT_COLUMNS, Raised};
+use cycle_parts::{OUTPUT_COLUMNS, Raised, first_entries};
 use cycle_run::{CycleEnd, Line};
 use cycle_start::start_state;
+use cycle_wakes::{Changes, Wakes};
 use flat_design::{Design, Effects, Instrumented, State, counter_room};
 use flow_order::Order;
 use std::alloc::Global;
@@ -63,6 +64,11 @@ impl<'a> Machine<'a> {
         let state = start_state(alloc, &design.design)?;
         let settled = State::new(alloc, &design.design)?;
         let kept = raised_rooms(alloc, &design.design, &settled)?;
+        let places = order.processes();
+        let vars = design.design.vars.as_slice();
+        let wakes = Wakes::new(alloc, &design.design, places)?;
+        let changes = Changes::new(alloc, places.len(), vars.len())?;
+        let firsts = first_entries(alloc, design)?;
         let effects = Effects::reserve(alloc, design)?;
         let room = line_room(design.design.outputs.as_slice().len(), effects.byte_room())?;
         let line = Line::with_room(alloc, room)?;
@@ -70,9 +76,12 @@ impl<'a> Machine<'a> {
         Ok(Machine {
             design,
             order,
+            wakes,
+            firsts,
             state,
             settled,
             kept,
+            changes,
             effects,
             counts,
             line,

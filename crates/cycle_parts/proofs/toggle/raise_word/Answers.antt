@@ -5,14 +5,14 @@ use Rattle.std.proofs.lemmas.List.{get_or_default}
 use Rattle.design_meaning.specs.Counters.{HasCounted}
 use Rattle.cycle_parts.specs.Toggles.{differing, entry_at, no_entry}
 use Rattle.cycle_parts.proofs.CountLaws.{nothing_counted}
-use Rattle.cycle_parts.proofs.ToggleLaws.{differing_here, same_here, none_differing, room_for_entry}
+use Rattle.cycle_parts.proofs.ToggleLaws.{apart, differing_here, same_bits, same_here, none_differing, room_for_entry}
 use Rattle.cycle_parts.proofs.toggle.raise_word.Goals as goal
-use Rattle.cycle_parts.proofs.toggle.raise_word.Goals.{then-bit_of, else-bit_of}
+use Rattle.cycle_parts.proofs.toggle.raise_word.Goals.{then-bit_of-eq1, else-bit_of-eq1}
 
-pub returns-then-was-is : goal.returns-then-was-is
-returns-then-was-is c =
+pub returns-then-differing-eq0 : goal.returns-then-differing-eq0
+returns-then-differing-eq0 c =
     let a = c.args.counts.now in
-    subst (λ r. HasCounted a r a) (sym (none_differing c.args.was c.args.is c.args.entries.now c.if-was-is.true)) (nothing_counted a)
+    subst (λ r. HasCounted a r a) (sym (none_differing c.args.was c.args.is c.args.entries.now c.if-differing-eq0.true)) (nothing_counted a)
 
 pub raise_one-requires : goal.raise_one-requires
 raise_one-requires c =
@@ -30,13 +30,13 @@ loop-entry-preserved c =
     let x = entry_at es i in
     let here : x ≡ slice_index_or es i x = get_or_default es i no_entry x c.loop-entry-test.true in
     let a = c.args.counts.now in
-    elim c.if-bit_of.branch [
-      | then-bit_of w ↦ subst (HasCounted a (differing was is (take (i + 1) es))) (sym w.counts-is)
+    elim c.if-bit_of-eq1.branch [
+      | then-bit_of-eq1 w ↦ subst (HasCounted a (differing was is (take (i + 1) es))) (sym w.counts-is)
           (differing_here was is es i x c.loop-entry-test.true here a c.loop-entry.counts w.raise_one.new.counts
-          (ap not (ne_eqb (bit_at was x.bit) (bit_at is x.bit) (λ e. w.if-bit_of.true (c.bit_of.ensures ∙ e ∙ sym c.bit_of-in-loop-entry.ensures))))
+          (apart was is x.bit (sym c.bit_of.ensures ∙ w.if-bit_of-eq1.true))
           c.loop-entry.invariant w.raise_one.ensures)
-      | else-bit_of w ↦ subst (HasCounted a (differing was is (take (i + 1) es))) (sym w.counts-is)
+      | else-bit_of-eq1 w ↦ subst (HasCounted a (differing was is (take (i + 1) es))) (sym w.counts-is)
           (same_here was is es i x c.loop-entry-test.true here a c.loop-entry.counts
-          (ap not (eq-eqb (bit_at was x.bit) (bit_at is x.bit) (sym c.bit_of.ensures ∙ w.if-bit_of.false ∙ c.bit_of-in-loop-entry.ensures)))
+          (same_bits was is x.bit (λ e. w.if-bit_of-eq1.false (c.bit_of.ensures ∙ e)))
           c.loop-entry.invariant)
     ]

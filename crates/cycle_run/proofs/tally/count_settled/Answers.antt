@@ -14,3 +14,6 @@ raise_toggled-requires-clause-fit c k =
     let few = are_few d s kept (c.args.x.now, c.requires.valid, refl) c.requires.now c.requires.many c.requires.raised in
     room_for_toggles d s kept c.args.counts.now c.count_kept.new.counts (length c.args.x.now.toggles) k few c.requires.raised c.requires.fit
     (c.count_kept.ensures s c.requires.raised)
+
+pub raise_toggled-requires-clause-unchanged : goal.raise_toggled-requires-clause-unchanged
+raise_toggled-requires-clause-unchanged c = c.requires.changed c.if-first.false

@@ -1,4 +1,4 @@
-use Rattle.std.proofs.Common.{◌≡◌, ◌∙◌, sym, ap, subst, true, ℕ, ◌<◌, ◌^◌, List, ◌++◌, length}
+use Rattle.std.proofs.Common.{◌≡◌, ◌∙◌, sym, ap, subst, true, false, ℕ, ◌<◌, ◌^◌, List, ◌++◌, length}
 use Rattle.std.specs.Vec.{with_items}
 use Rattle.std.proofs.lemmas.List.{with_items_is}
 use Rattle.circuit_run.specs.Kinds.{runs_at_edge}
@@ -6,6 +6,7 @@ use Rattle.circuit_run.specs.Runs.{output_line}
 use Rattle.circuit_run.specs.States.{State}
 use Rattle.design_meaning.specs.Counters.{HasCounted}
 use Rattle.design_meaning.specs.Cycles.{IsCycle}
+use Rattle.place_marks.specs.Marked.{is_marked}
 use Rattle.cycle_parts.specs.Raised.{Raised}
 use Rattle.cycle_phases.specs.Phases.{turns}
 use Rattle.cycle_run.specs.Ends.{end_seen}
@@ -13,8 +14,7 @@ use Rattle.cycle_run.specs.Lines.{Line}
 use Rattle.cycle_run.specs.Tally.{CanRaise}
 use Rattle.flat_design.specs.Effects.{room_of_all}
 use Rattle.simulator.specs.Machines.{IsSound, Machine, between}
-use Rattle.simulator.proofs.Parts.{IsClosed, IsSettledCount, cycle_runs, cycle_sound, cycled, edge_fits, row_counted}
-use Rattle.simulator.proofs.Sound.{few_variables}
+use Rattle.simulator.proofs.Parts.{IsClosed, IsSettledCount, cycle_runs, cycle_sound, cycled, edge_fits, marked, marked_closed, marked_count, marked_sound, row_counted}
 use Rattle.simulator.proofs.machine.Machine.cycle.Given as given
 use Rattle.simulator.proofs.machine.Machine.cycle.Goals as goal
 
@@ -23,9 +23,12 @@ abbrev old : (g : given.Over) → goal.After-end-1 g → Machine
 old g c = record {
   design = c.self.inside.design.now;
   order = c.self.inside.order.now;
+  wakes = c.self.inside.wakes;
+  firsts = c.self.inside.firsts.items;
   state = c.self.inside.state;
   settled = c.self.inside.settled;
   kept = c.self.inside.kept.items;
+  changes = c.self.inside.changes;
   effects = c.self.inside.effects;
   counts = c.self.inside.counts.items;
   line = c.self.inside.line;
@@ -68,7 +71,7 @@ closed g c =
       leaves = c.close_phase-end.ensures.now;
       prints = c.close_phase-end.ensures.text
           ∙ ap (λ (l : Line). record { bytes = l.bytes ++ o.text; room = l.room }) c.print_outputs.ensures.text
-          ∙ ap (λ (outputs : List ℕ). record { bytes = output_line outputs s ++ o.text; room = c.self.inside.line.room }) c.as_slice-3.ensures;
+          ∙ ap (λ (outputs : List ℕ). record { bytes = output_line outputs s ++ o.text; room = c.self.inside.line.room }) c.as_slice-4.ensures;
       counted = subst (λ (l : List ℕ). HasCounted l o.notes c.close_phase-end.new.counts) (c.as_mut_slice-3.ensures.value ∙ mid_is g c)
           c.close_phase-end.ensures.counts;
       ends = c.close_phase-end.ensures.end;
@@ -77,15 +80,14 @@ closed g c =
       raised = c.close_phase-end.ensures.raised;
     }
 
-pub copy_state-requires-clause-few : goal.copy_state-requires-clause-few
-copy_state-requires-clause-few g c =
-    subst (λ (m : Machine). length m.design.design.vars < 2 ^ 32) (sym c.self.view_is)
-    (few_variables c.args.self.now.design c.requires.sound.can_run.valid)
-
 counts_are : (g : given.Over) (c : goal.After-end-1 g)
     → (with_items (with_items c.self.inside.counts c.count_settled.new.counts) c.close_phase-end.new.counts).items ≡ c.close_phase-end.new.counts
 counts_are g c = with_items_is (with_items c.self.inside.counts c.count_settled.new.counts) c.close_phase-end.new.counts
     ((closed g c).counted.as_many ∙ (settled_count g c).counted.as_many ∙ sym c.self.inside.counts.ok.0)
+
+pub count_settled-requires-clause-changed : goal.count_settled-requires-clause-changed
+count_settled-requires-clause-changed g c e v lt unmarked =
+    c.settle_row.ensures.changed e v lt (subst (λ (marks : List ℕ). is_marked marks v ≡ false) c.vars.ensures unmarked)
 
 pub close_phase-end-requires-clause-fit : goal.close_phase-end-requires-clause-fit
 close_phase-end-requires-clause-fit g c =
@@ -118,7 +120,8 @@ returns-clause-run g c =
 
 pub returns-clause-sound : goal.returns-clause-sound
 returns-clause-sound g c =
-    let m = old g c in
+    let m = marked (old g c) c.settle_row.new.changes in
+    let still = marked_sound (old g c) c.settle_row.new.changes (sound g c) c.settle_row.ensures.changes in
     let s = c.settle_row.new.state in
     let e = c.close_phase-end.new in
     let end = c.close_phase-end.result in
@@ -129,4 +132,5 @@ returns-clause-sound g c =
     (subst (λ (k : List Raised). IsSound (cycled m s k e.now e.effects counts e.line end)) (sym (kept_are g c))
     (subst (λ (l : List ℕ). IsSound (cycled m s c.settle_row.new.kept e.now e.effects l e.line end)) (sym (counts_are g c))
     (cycle_sound m c.args.row.now.values s c.settle_row.new.kept c.count_settled.new.counts e.now e.effects e.counts e.line end
-    (sound g c) (settled_count g c) (closed g c) on)))
+    still (marked_count (old g c) c.settle_row.new.changes _ _ _ _ (settled_count g c))
+    (marked_closed (old g c) c.settle_row.new.changes _ _ _ _ _ _ _ _ _ (closed g c)) on)))

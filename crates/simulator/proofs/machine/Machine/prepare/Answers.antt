@@ -1,9 +1,11 @@
 use Rattle.std.proofs.Common.{◌∙◌, sym, ap, subst, refl, true≢false, ℕ, List, length, arith}
 use Rattle.std.specs.Prelude.{slice_index}
+use Rattle.cov_types.specs.declared.var.Var.{Var}
 use Rattle.circuit_run.specs.States.{no_var}
 use Rattle.design_meaning.specs.States.{IsStateOf}
 use Rattle.design_state.proofs.LaidStarts.{start_is_state}
 use Rattle.flat_design.specs.Effects.{Effects}
+use Rattle.cycle_wakes.specs.Wakes.{AreWakesOf}
 use Rattle.cycle_run.specs.Lines.{Line}
 use Rattle.cycle_run.proofs.RunLaws.{start_wires}
 use Rattle.simulator.proofs.Parts.{zeros}
@@ -27,6 +29,12 @@ returns-clause-sound c =
       undriven = start_wires d c.in_ok-state.state (λ v lt. c.requires.valid.variables v no_var lt) c.in_ok-state.ensures;
       follows = λ e. absurd (true≢false e);
       rooms = c.in_ok-kept.ensures;
+      wakes = subst (λ (order : List ℕ). AreWakesOf d order c.in_ok-wakes.wakes) c.processes-places.ensures c.in_ok-wakes.ensures;
+      firsts = c.in_ok-firsts.ensures;
+      changes = record {
+        places = omega (arith, c.in_ok-changes.ensures.places, ap (λ (l : List ℕ). length l) c.processes-places.ensures);
+        vars = omega (arith, c.in_ok-changes.ensures.vars, ap (λ (l : List Var). length l) c.as_slice-vars.ensures);
+      };
       room = ap (λ (e : Effects). e.room) c.in_ok-effects.ensures;
       columns = omega (
         arith,

@@ -17,9 +17,12 @@ abbrev old : (g : given.Over) → goal.After-end-1 g → Machine
 old g c = record {
   design = c.self.inside.design.now;
   order = c.self.inside.order.now;
+  wakes = c.self.inside.wakes;
+  firsts = c.self.inside.firsts.items;
   state = c.self.inside.state;
   settled = c.self.inside.settled;
   kept = c.self.inside.kept.items;
+  changes = c.self.inside.changes;
   effects = c.self.inside.effects;
   counts = c.self.inside.counts.items;
   line = c.self.inside.line;

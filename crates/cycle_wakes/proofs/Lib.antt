@@ -1,0 +1,4 @@
+pub mod Reading
+pub mod Noting
+pub mod Writing
+pub mod Whole
