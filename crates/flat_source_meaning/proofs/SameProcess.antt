@@ -51,19 +51,19 @@ module _ (vars : List FlatVar) where
       ≡ entering kind env.scope p (statements.does st env) (drives.targets st env)
   of_body kind {env} p d = ap₂ (entering kind env.scope p) (sym (same_act vars d)) (sym (same_targets vars d))
 
-  no_targets : (word : Place) (a : FlatExpr) → flat_statements.targets vars (cover_stmt word a) ≡ []
-  no_targets word a =
-      of.of-If-else vars word a (flat_stmt word k.Empty) (flat_stmt word k.Empty)
-      ∙ ap₂ (λ (x : List Object) (y : List Object). x ++ y) (of.of-Empty vars word) (of.of-Empty vars word)
+  no_targets : (p : Place) (a : FlatExpr) → flat_statements.targets vars (cover_stmt p a) ≡ []
+  no_targets p a =
+      of.of-If-else vars p a (flat_stmt p k.Empty) (flat_stmt p k.Empty)
+      ∙ ap₂ (λ (x : List Object) (y : List Object). x ++ y) (of.of-Empty vars p) (of.of-Empty vars p)
 
-  cover_layer : (scope : ℕ) (word : Place) (a : FlatExpr)
-      → circuit.cover_runs vars (flat_process scope word process_kind.Cover (cover_stmt word a)) (out-FlatKind (out-FlatStmt (cover_stmt word a)).what)
+  cover_layer : (scope : ℕ) (p word : Place) (a : FlatExpr)
+      → circuit.cover_runs vars (flat_process scope word process_kind.Cover (cover_stmt p a)) (out-FlatKind (out-FlatStmt (cover_stmt p a)).what)
       ≡ covers_at scope word (flat_expressions.meaning vars a)
-  cover_layer scope word a =
-      let p : FlatProcess = flat_process scope word process_kind.Cover (cover_stmt word a) in
-      let what : FlatKind = k.If a (flat_stmt word k.Empty) (Some (flat_stmt word k.Empty)) in
-      ap (λ x. circuit.cover_runs vars p (out-FlatKind x.what)) (out-roll-FlatStmt (record { place = word; what = what }))
-      ∙ ap (circuit.cover_runs vars p) (k.outs-If a (flat_stmt word k.Empty) (Some (flat_stmt word k.Empty)))
+  cover_layer scope p word a =
+      let q : FlatProcess = flat_process scope word process_kind.Cover (cover_stmt p a) in
+      let what : FlatKind = k.If a (flat_stmt p k.Empty) (Some (flat_stmt p k.Empty)) in
+      ap (λ x. circuit.cover_runs vars q (out-FlatKind x.what)) (out-roll-FlatStmt (record { place = p; what = what }))
+      ∙ ap (circuit.cover_runs vars q) (k.outs-If a (flat_stmt p k.Empty) (Some (flat_stmt p k.Empty)))
 
   pub same_process : {p : Process} {q : FlatProcess} → IsFlatProcess vars p q → circuit.process_of vars q ≡ meaning_of_process p
   same_process (initially_flat {p = p} d) = of_body process_kind.Initial p d
@@ -73,8 +73,8 @@ module _ (vars : List FlatVar) where
       ap₂ (assigning env.scope p)
       (did.of-Set vars env.scope p a b ∙ ap₂ sets (sym (same_meaning vars d)) (sym (same_meaning vars f)))
       (of.of-Set vars p a b ∙ ap (λ (m : Meaning). m.objects) (sym (same_meaning vars d)))
-  same_process (covers_flat {env} {word} {label} {test} {a} d) =
-      ap₂ covering (cover_layer env.scope word a ∙ ap (covers_at env.scope word) (sym (same_meaning vars d))) (no_targets word a)
+  same_process (covers_flat {env} {p} {word} {label} {test} {a} d) =
+      ap₂ covering (cover_layer env.scope p word a ∙ ap (covers_at env.scope word) (sym (same_meaning vars d))) (no_targets p a)
 
   pub same_processes : (ps : List Process) (qs : List FlatProcess) → AllZip (IsFlatProcess vars) ps qs
       → map (circuit.process_of vars) qs ≡ map meaning_of_process ps

@@ -23,7 +23,7 @@ use Rattle.flat_meaning.specs.FlatTrees.{flat_stmt}
 abbrev pub flat_process : ℕ → Place → ProcessKind → FlatStmt → FlatProcess
 flat_process scope p kind body = record { scope = scope; place = p; kind = kind; body = body }
 
--- a cover is one `if` on its expression with empty arms
+-- a cover is one `if` on its expression with empty arms, at the first token of its item
 abbrev pub cover_stmt : Place → FlatExpr → FlatStmt
 cover_stmt p test = flat_stmt p (k.If test (flat_stmt p k.Empty) (Some (flat_stmt p k.Empty)))
 
@@ -36,16 +36,16 @@ pub data IsFlatProcess (vars : List FlatVar) : Process → FlatProcess → Type 
   assigns_flat : {target_env env : Environment} {p : Place} {target e : Expr} {a b : FlatExpr}
       → IsFlat vars target_env target a → IsFlat vars env e b
       → IsFlatProcess vars (assigns target_env env p target e) (flat_process env.scope p kind.Assign (flat_stmt p (k.Set a b)))
-  covers_flat : {env : Environment} {word : Place} {label : Option NamePlace} {test : Expr} {a : FlatExpr}
+  covers_flat : {env : Environment} {p word : Place} {label : Option NamePlace} {test : Expr} {a : FlatExpr}
       → IsFlat vars env test a
-      → IsFlatProcess vars (covers env word label test) (flat_process env.scope word kind.Cover (cover_stmt word a))
+      → IsFlatProcess vars (covers env p word label test) (flat_process env.scope word kind.Cover (cover_stmt p a))
 
 -- the number of the scope that a process stands in
 abbrev pub scope_of : Process → ℕ
 scope_of (initially env p st) = env.scope
 scope_of (always clock env p st) = env.scope
 scope_of (assigns target_env env p target e) = env.scope
-scope_of (covers env word label test) = env.scope
+scope_of (covers env p word label test) = env.scope
 
 -- The copies of arms of a process: its body's before those in it.
 pub data HasProcessArms : Process → List Arm → Type 0 where
@@ -54,8 +54,8 @@ pub data HasProcessArms : Process → List Arm → Type 0 where
   always_has : {clock : Option (List ℕ)} {env : Environment} {p : Place} {st : Stmt} {arms : List Arm}
       → HasArms env st (stmt_layer st) arms → HasProcessArms (always clock env p st) (body_arm p st ∷ arms)
   assigns_has : {target_env env : Environment} {p : Place} {target e : Expr} → HasProcessArms (assigns target_env env p target e) (no_arm p ∷ [])
-  covers_has : {env : Environment} {word : Place} {label : Option NamePlace} {test : Expr}
-      → HasProcessArms (covers env word label test) (cover_arm word label ∷ [])
+  covers_has : {env : Environment} {p word : Place} {label : Option NamePlace} {test : Expr}
+      → HasProcessArms (covers env p word label test) (cover_arm word label ∷ [])
 
 -- a copy of an arm with the numbers of its process and scope
 pub record Numbered : Type 0 where

@@ -24,12 +24,12 @@ use Rattle.cov_types.specs.declared.kind.ProcessKind.{ProcessKind}
 use Rattle.cov_types.specs.declared.kind.ProcessKind.TheVariants as kind
 
 -- A process: an `initial`; an `always`, combinational or with a clock; an assignment, the names of its target and those of
--- its value standing for something each; a cover at the word `cover`.
+-- its value standing for something each; a cover, with the place of its item before that of the word `cover`.
 pub data Process : Type 0 where
   initially : Environment → Place → Stmt → Process
   always : Option (List ℕ) → Environment → Place → Stmt → Process
   assigns : Environment → Environment → Place → Expr → Expr → Process
-  covers : Environment → Place → Option NamePlace → Expr → Process
+  covers : Environment → Place → Place → Option NamePlace → Expr → Process
 
 -- an `always` without a clock is combinational
 abbrev pub always_kind : Option (List ℕ) → ProcessKind
@@ -46,7 +46,7 @@ item_processes env p (i.Wire signed range names) = filter_map (wire_process env 
 item_processes env p (i.Assign parts) = map (λ a. assigns env env p a.target a.value) parts
 item_processes env p (i.Initial body) = initially env p body ∷ []
 item_processes env p (i.Always clock body) = always clock env p body ∷ []
-item_processes env p (i.Cover word label clock test) = covers env word label test ∷ []
+item_processes env p (i.Cover word label clock test) = covers env p word label test ∷ []
 item_processes env p _ = []
 
 -- a connection stands in the scope and at the place of the item of its instance: an input is assigned the expression, of an

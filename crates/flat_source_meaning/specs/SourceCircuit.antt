@@ -21,7 +21,7 @@ abbrev pub meaning_of_process : Process → circuits.Process Event
 meaning_of_process (initially env p st) = process_of kind.Initial env p st
 meaning_of_process (always clock env p st) = process_of (always_kind clock) env p st
 meaning_of_process (assigns target_env env p target e) = assignment_of target_env env p target e
-meaning_of_process (covers env word label test) = cover_of env word test
+meaning_of_process (covers env p word label test) = cover_of env word test
 
 -- The number of the variable of a port of the top, where it has this direction; the clock has none.
 abbrev pub input_number : List FlatVar → Port → Option ℕ

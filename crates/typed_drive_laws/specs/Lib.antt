@@ -1,0 +1,4 @@
+pub mod DriveLaws
+pub mod FileRuns
+pub mod FixedParts
+pub mod FormedBodies
