@@ -75,7 +75,7 @@ module _ (t : ℕ → List ℕ) where
   same_cycles [] = refl
   same_cycles (k ∷ ks) = ap₂ (λ c cs. with_notes k c ∷ cs) (nothing_of (flat_map t k.notes) ∙ sym (nothing_of k.notes)) (same_cycles ks)
 
-  same_seen : (r : Run ℕ) → seen (renoted_run t r) ≡ seen r
+  pub same_seen : (r : Run ℕ) → seen (renoted_run t r) ≡ seen r
   same_seen r = ap₂ (λ notes cycles. a_run (opened_with r.opened notes) cycles)
       (nothing_of (flat_map t r.opened.notes) ∙ sym (nothing_of r.opened.notes)) (same_cycles r.cycles)
 
@@ -83,7 +83,7 @@ module _ (t : ℕ → List ℕ) where
   same_states [] = refl
   same_states (k ∷ ks) = ap (λ ss. k.settled ∷ ss) (same_states ks)
 
-  same_changes : (r : Run ℕ) (b : Bit) → changes (settled_states (renoted_run t r)) b ≡ changes (settled_states r) b
+  pub same_changes : (r : Run ℕ) (b : Bit) → changes (settled_states (renoted_run t r)) b ≡ changes (settled_states r) b
   same_changes r b = ap (λ states. length (filter (λ pair. not (bit pair.0 b == bit pair.1 b)) (successive states))) (same_states r.cycles)
 
 -- ---- toggles

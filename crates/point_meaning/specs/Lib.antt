@@ -12,3 +12,4 @@ pub mod RunData
 pub mod Limits
 pub mod Flat
 pub mod FromWalk
+pub mod PointLaws

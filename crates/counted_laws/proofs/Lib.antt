@@ -1,0 +1,10 @@
+pub mod WithoutCounts
+pub mod Sees
+pub mod Measures
+pub mod Mentioned
+pub mod CountedProcess
+pub mod StaysValid
+pub mod Sums
+pub mod ArmTotals
+pub mod BitTotals
+pub mod DerivedRows

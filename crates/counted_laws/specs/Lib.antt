@@ -1,0 +1,3 @@
+pub mod ErasedLaw
+pub mod ValidLaw
+pub mod DerivedTable
