@@ -1,10 +1,14 @@
 -- What follows where a scope ends.
-use Rattle.std.proofs.Common.{◌≡◌, ℕ, ◌-◌, Bool, List, [], ◌∷◌, ◌++◌, take, length, refl, subst, sym, ap, ◌∙◌, append-nil, length-append, arith}
+use Rattle.std.proofs.Common.{◌≡◌, ℕ, ◌-◌, Bool, List, [], ◌∷◌, ◌++◌, false, Some, take, length, refl, subst, sym, ap, ◌∙◌, append-nil, length-append, arith}
 use Rattle.std.proofs.Math.Seq.{take-append_seam}
 use Rattle.std.specs.Global.{Vec}
 use Rattle.vlog_tree.specs.declared.module.Module.{Module}
+use Rattle.scope_meaning.specs.Declared.{is_in}
+use Rattle.scope_meaning.specs.Heads.{module_named}
 use Rattle.scope_meaning.specs.Scope.{Here, At, Frame, frames}
 use Rattle.scope_meaning.specs.Visits.{Visits, with_next}
+use Rattle.elab_modules.specs.declared.above.OpenModules.{OpenModules}
+use Rattle.elab_modules.specs.Above.{AreAbove}
 use Rattle.elab_names.specs.declared.scope_names.ScopeNames.{ScopeNames}
 use Rattle.elab_names.specs.Frames.{AreFrames, inside}
 use Rattle.walk_laws.specs.Rest.{Task, an_end, Rest}
@@ -27,7 +31,7 @@ pub closed : {f : Frame} {fs : List Frame} {ss new : List ScopeNames} → AreFra
 closed {fs = fs} (inside {ss = outer} {s = s} are is) e = subst (λ (l : List ScopeNames). AreFrames fs l) (sym (e ∙ all_but_last outer s)) are
 
 -- a scope around goes on at a place
-record GoesOn (design : List Module) (top : List ℕ) (done : Visits) (next : ℕ) (here : Here) (around : ScopePlace) (under : List Left) : Type 0 where
+record GoesOn (design : List Module) (top : List ℕ) (done : Visits) (next : ℕ) (around : ScopePlace) (under : List Left) : Type 0 where
   outer : Here
   place : At
   tasks : List Task
@@ -43,16 +47,27 @@ behind {design} {top} {done} at {place} {next} {tasks} s =
 of_block : {design : List Module} {top : List ℕ} {done : Visits} {here : Here} {at : At} {next : ℕ} {around : ScopePlace} {under : List Left}
     {tasks : List Task}
     → AreLeft design here at (left.EndOfBlock around ∷ under) tasks → Stands design top done tasks (with_next at next)
-    → (it : GoesOn design top done next here around under) × (here.outer ≡ frames it.outer it.place)
-of_block {at = at} (below (in_block {outer = outer} {place = place} {tasks = tasks} is same lefts)) s =
-    (record { outer = outer; place = place; tasks = tasks; scope = is; left = lefts; stands = behind at s }, same)
+    → (it : GoesOn design top done next around under) × (here.outer ≡ frames it.outer it.place) × (here.above ≡ it.outer.above)
+of_block {at = at} (below (in_block {outer = outer} {place = place} {tasks = tasks} is same beside lefts)) s =
+    (record { outer = outer; place = place; tasks = tasks; scope = is; left = lefts; stands = behind at s }, same, beside)
+
+-- the modules that a scope stands in, where it is left
+record Leaves (design : List Module) (above outer : List (List ℕ)) (number : ℕ) : Type 0 where
+  m : Module
+  same : above ≡ outer ++ m.name ∷ []
+  found : module_named design m.name ≡ Some (number, m)
+  fresh : is_in m.name outer ≡ false
 
 of_module : {design : List Module} {top : List ℕ} {done : Visits} {here : Here} {at : At} {next number : ℕ} {around : ScopePlace} {names : Vec ScopeNames}
     {under : List Left} {tasks : List Task}
     → AreLeft design here at (left.EndOfModule around names number ∷ under) tasks → Stands design top done tasks (with_next at next)
-    → (it : GoesOn design top done next here around under) × AreFrames (frames it.outer it.place) names.items
-of_module {at = at} (below (in_module {outer = outer} {place = place} {tasks = tasks} is are above found fresh lefts)) s =
-    (record { outer = outer; place = place; tasks = tasks; scope = is; left = lefts; stands = behind at s }, are)
+    → (it : GoesOn design top done next around under) × AreFrames (frames it.outer it.place) names.items
+    × Leaves design here.above it.outer.above number
+of_module {at = at} (below (in_module {outer = outer} {place = place} {m = m} {tasks = tasks} is are above found fresh lefts)) s = (
+  record { outer = outer; place = place; tasks = tasks; scope = is; left = lefts; stands = behind at s },
+  are,
+  record { m = m; same = above; found = found; fresh = fresh },
+)
 
 -- Behind a block the scope around it goes on,
 pub ended_block : {design : List Module} {top : List ℕ} {done : Visits} {here : Here} {at : At} {tasks : List Task} (w : Walk) (around : ScopePlace)
@@ -72,6 +87,7 @@ ended_block {design} {top} {done} {here} {at} w around names s without =
         stands = it.0.stands;
         scope = it.0.scope;
         names = subst (λ (fs : List Frame). AreFrames fs names.items) it.1 (without here.outer frame s.names);
+        above = subst (λ (names : List (List ℕ)). AreAbove design names w.above) it.2 s.above;
         left = it.0.left;
         records = s.records;
       };
@@ -79,16 +95,25 @@ ended_block {design} {top} {done} {here} {at} w around names s without =
 
 -- and behind a module that of its instance.
 pub ended_module : {design : List Module} {top : List ℕ} {done : Visits} {here : Here} {at : At} {tasks : List Task} (w : Walk) (around : ScopePlace)
-    (names : Vec ScopeNames)
-    (number : ℕ)
+    (names : Vec ScopeNames) (number : ℕ) (modules : OpenModules)
     → IsStanding design top done here at tasks (record w { left = left.EndOfModule around names number ∷ w.left })
-    → IsOnWay design top (record w { here = around; names = names })
-ended_module {design} {top} {done} w around names number s =
+    → ((above : List (List ℕ)) (name : List ℕ) (m : Module) → AreAbove design (above ++ m.name ∷ []) w.above → module_named design name ≡ Some (number, m)
+    → is_in m.name above ≡ false → AreAbove design above modules)
+    → IsOnWay design top (record w { here = around; names = names; above = modules })
+ended_module {design} {top} {done} w around names number modules s leave =
     let it = of_module s.left s.stands in
     record {
       done = done;
       here = it.0.outer;
       place = it.0.place;
       tasks = it.0.tasks;
-      standing = record { stands = it.0.stands; scope = it.0.scope; names = it.1; left = it.0.left; records = s.records };
+      standing = record {
+        stands = it.0.stands;
+        scope = it.0.scope;
+        names = it.1;
+        above = leave it.0.outer.above it.2.m.name it.2.m (subst (λ (names : List (List ℕ)). AreAbove design names w.above) it.2.same s.above)
+            it.2.found it.2.fresh;
+        left = it.0.left;
+        records = s.records;
+      };
     }

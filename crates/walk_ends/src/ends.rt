@@ -28,11 +28,12 @@ pub fn end_block(walk: &mut Walk<'_>, around: ScopePlace)
 }
 
 /// Ends the scope of the module of a number; the scope of its instance goes on at this place, where these names are visible.
-pub fn end_module(walk: &mut Walk<'_>, around: ScopePlace, names: Vec<ScopeNames>)
-    ensures { (design : List Module) (top : List ℕ) (done : Visits) (here : Here) (at : At) (tasks : List Task) (number : ℕ)
+pub fn end_module(walk: &mut Walk<'_>, around: ScopePlace, names: Vec<ScopeNames>, number: u32)
+    ensures { (design : List Module) (top : List ℕ) (done : Visits) (here : Here) (at : At) (tasks : List Task)
         → IsStanding design top done here at tasks (record walk.old { left = left.EndOfModule around names number ∷ walk.old.left })
         → IsOnWay design top walk.new }
 {
+    walk.above.leave(number as usize);
     walk.names = names;
     walk.here = around;
 }

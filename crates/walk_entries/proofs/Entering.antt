@@ -21,6 +21,8 @@ use Rattle.scope_meaning.specs.Visits.{Visit, Visits, Entry, enters, sees, an_it
 use Rattle.scope_meaning.specs.Visits.{block_scope, names_declared, start}
 use Rattle.scope_meaning.specs.ScopeRules.{refusal}
 use Rattle.scope_meaning.specs.ScopeTrees.{seen_constant, IsFirstRefusal}
+use Rattle.elab_modules.specs.declared.above.OpenModules.{OpenModules}
+use Rattle.elab_modules.specs.Above.{AreAbove}
 use Rattle.elab_names.specs.declared.scope_names.PassGenvar.{PassGenvar}
 use Rattle.elab_names.specs.Frames.{AreFrames, IsGenvar}
 use Rattle.walk_laws.specs.Rest.{Task, some_items, a_turn_of, a_step_of, an_end, Rest}
@@ -85,7 +87,7 @@ calm-entered design here at name genvar e =
 pub has_entered : {design : List Module} {here : Here} {by at : At} {name : List ℕ} {genvar : Option Constant} {its : Bor (List Item)} {first : ℕ}
     {under : List Task}
     (old new : Walk) (item : ℕ) (path : List ℕ) (pass : Option PassGenvar)
-    → at.next ≡ old.next → frames here at ≡ frames here by → new.next ≡ old.next + 1
+    → at.next ≡ old.next → frames here at ≡ frames here by → new.next ≡ old.next + 1 → new.above ≡ old.above
     → IsAt (block_scope here at name genvar its.now) (start at.next first) new.here
     → ((fs : List Frame) (f : Frame) → AreFrames fs old.names.items → f.declared ≡ flat_map declares its.now → IsGenvar f.genvar pass → f.known ≡ []
     → AreFrames (f ∷ fs) new.names.items)
@@ -94,14 +96,16 @@ pub has_entered : {design : List Module} {here : Here} {by at : At} {name : List
     → new.records ≡ old.records ++ block_records old.here old.next item path pass → at.item ≡ item → path ≡ inside here.path name
     → HasEntered design here by at name genvar its.now first under old new
 has_entered {design} {here} {by} {at} {name} {genvar} {its} {first}
-    {under} old new item path pass numbered same next scope opened are is_genvar pushed is lefts noted same_item its_path =
+    {under} old new item path pass numbered same next beside scope opened are is_genvar pushed is lefts noted same_item its_path =
     let block : Here = block_scope here at name genvar its.now in
     let frame : Frame = record { number = at.next; declared = flat_map declares its.now; genvar = genvar; known = [] } in
     record {
       next = next;
       scope = scope;
       names = subst (λ (fs : List Frame). AreFrames (frame ∷ fs) new.names.items) (sym same) (opened (frames here by) frame are refl is_genvar refl);
-      left = subst (λ (ls : List Left). AreBelow design block ls (some_items block its.now ∷ an_end by ∷ under)) (sym pushed) (items (in_block is same lefts));
+      above = beside;
+      left = subst (λ (ls : List Left). AreBelow design block ls (some_items block its.now ∷ an_end by ∷ under)) (sym pushed)
+          (items (in_block is same refl lefts));
       records = λ done d. recorded-more done (entered here at name genvar) old.records (block_records old.here at.next item path pass) new.records d
           (recorded-block here by at name path genvar pass old.here item is same_item its_path is_genvar)
           (noted ∙ ap (λ (n : ℕ). old.records ++ block_records old.here n item path pass) (sym numbered));
@@ -134,6 +138,7 @@ goes_into {design} {top} {done} {here} {place} {end = end} {tasks = tasks} {unde
             (λ ws whole r. subst (λ (us : Visits). Rest design tasks (with_next place w.next) us whole) (sym (append_assoc vs comes ws)) (step ws whole r)));
         scope = h.scope;
         names = h.names;
+        above = subst (λ (o : OpenModules). AreAbove design here.above o) (sym h.above) m.above;
         left = below h.left;
         records = subst (λ (us : Visits). AreRecorded us v.records) (append_assoc done vs comes)
             (h.records (done ++ vs) (recorded-more done vs w.records [] w.records m.records none_recorded (sym (append-nil w.records))));

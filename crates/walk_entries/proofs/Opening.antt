@@ -19,6 +19,7 @@ use Rattle.scope_meaning.specs.Scope.{Here, At, Frame, Given, frames}
 use Rattle.scope_meaning.specs.Visits.{Visit, Visits, enters, connects, has_row, past, with_next, made_at, module_entered, module_scope, body_scope, start}
 use Rattle.scope_meaning.specs.ScopeRules.{refusal}
 use Rattle.scope_meaning.specs.ScopeTrees.{IsFirstRefusal}
+use Rattle.elab_modules.specs.Above.{AreAbove}
 use Rattle.elab_names.specs.declared.scope_names.ScopeNames.{ScopeNames}
 use Rattle.elab_names.specs.Frames.{AreFrames, IsGenvar}
 use Rattle.walk_laws.specs.Rest.{Task, a_header, some_instances, an_end, Rest}
@@ -61,6 +62,7 @@ pub has_instance : {design : List Module} {here : Here} {by place : At} (p : Pla
     → new.next ≡ old.next + 1
     → IsAt (instance_scope here old.next one values number m.now) (start old.next 0) new.here
     → ((f : Frame) → f.declared ≡ module_declares m.now → IsGenvar f.genvar None → f.known ≡ [] → AreFrames (f ∷ []) new.names.items)
+    → (AreAbove design here.above old.above → AreAbove design (here.above ++ m.now.name ∷ []) new.above)
     → AreFrames (frames here by) old.names.items
     → new.left ≡ left.Header m its ∷ left.EndOfModule old.here old.names number ∷ old.left → its.now ≡ m.now.params
     → IsAt here by old.here → AreLeft design here by old.left under
@@ -68,7 +70,7 @@ pub has_instance : {design : List Module} {here : Here} {by place : At} (p : Pla
     → module_named design m.now.name ≡ Some (number, m.now) → is_in m.now.name here.above ≡ false
     → HasInstance design here by place p one values number m.now under old new
 has_instance {design} {here} {by} {place} p one values
-    {under} m its old new number item path next scope opened are pushed params is lefts noted same_item its_path found fresh =
+    {under} m its old new number item path next scope opened around are pushed params is lefts noted same_item its_path found fresh =
     let inner : Here = instance_scope here old.next one values number m.now in
     let at : At = start old.next 0 in
     let frame : Frame = record { number = old.next; declared = module_declares m.now; genvar = None; known = [] } in
@@ -78,6 +80,7 @@ has_instance {design} {here} {by} {place} p one values
       next = next;
       scope = scope;
       names = opened frame refl tt refl;
+      above = around;
       left = subst (λ (ls : List Left). AreLeft design inner at ls (a_header inner m.now m.now.params ∷ an_end by ∷ under)) (sym pushed)
           (subst (λ (ps : List Item). AreLeft design inner at (left.Header m its ∷ left.EndOfModule old.here old.names number ∷ old.left)
           (a_header inner m.now ps ∷ an_end by ∷ under))
@@ -117,6 +120,7 @@ entered_instance {design} {top} {done} {here} {place} {a} {number} {m} {values} 
             (goes_on_to comes s.stands (calm-instance design here place (item_place a) w.next number m one path limit) (λ ws whole r. into_instance r));
         scope = h.scope;
         names = h.names;
+        above = h.above s.above;
         left = h.left;
         records = h.records done s.records;
       };
@@ -146,10 +150,11 @@ pub begun_top : {design : List Module} {top : List ℕ} {number : ℕ} (m : Bor 
     → module_named design top ≡ Some (number, m.now) → w.next ≡ 1
     → IsAt (module_scope 0 top [] [] number m.now) (start 0 0) w.here
     → ((f : Frame) → f.declared ≡ module_declares m.now → IsGenvar f.genvar None → f.known ≡ [] → AreFrames (f ∷ []) w.names.items)
+    → AreAbove design (m.now.name ∷ []) w.above
     → w.left ≡ left.Header m its ∷ [] → its.now ≡ m.now.params
     → w.records ≡ recorded.Enters (record { number = 0; parent = None; path = top; in_module = number; home = 0 }) ∷ []
     → IsOnWay design top w
-begun_top {design} {top} {number} m its w found next scope opened pushed params noted =
+begun_top {design} {top} {number} m its w found next scope opened around pushed params noted =
     let inner : Here = module_scope 0 top [] [] number m.now in
     let entry : Visits = module_entered 0 None top number m.now in
     let new : List Task = a_header inner m.now m.now.params ∷ [] in
@@ -163,6 +168,7 @@ begun_top {design} {top} {number} m its w found next scope opened pushed params 
             (record { calm = refl; onward = λ ws whole r. begins found r });
         scope = scope;
         names = opened (record { number = 0; declared = module_declares m.now; genvar = None; known = [] }) refl tt refl;
+        above = around;
         left = subst (λ (ls : List Left). AreLeft design inner (start 0 0) ls new) (sym pushed)
             (subst (λ (ps : List Item). AreLeft design inner (start 0 0) (left.Header m its ∷ []) (a_header inner m.now ps ∷ [])) params (header nothing));
         records = ap (flat_map visits_of) (sym noted);

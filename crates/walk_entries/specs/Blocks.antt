@@ -37,5 +37,6 @@ pub record HasEntered (design : List Module) (here : Here) (by at : At) (name : 
   pub next : new.next ≡ old.next + 1
   pub scope : IsAt (block_scope here at name genvar items) (start at.next first) new.here
   pub names : AreFrames (frames (block_scope here at name genvar items) (start at.next first)) new.names.items
+  pub above : new.above ≡ old.above
   pub left : AreBelow design (block_scope here at name genvar items) new.left (some_items (block_scope here at name genvar items) items ∷ an_end by ∷ under)
   pub records : (done : Visits) → AreRecorded done old.records → AreRecorded (done ++ entered here at name genvar) new.records

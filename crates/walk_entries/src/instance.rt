@@ -1,4 +1,4 @@
-ghost use Rattle.std.specs.Prelude.{◌≡◌, ℕ, ◌<◌, false, List, [], ◌∷◌, ◌++◌, Some, None, IfOk, OnOk};
+ghost use Rattle.std.specs.Prelude.{◌≡◌, ℕ, ◌<◌, false, List, [], ◌∷◌, ◌++◌, Some, None, IfOk, OnOk, length};
 ghost use Rattle.cov_types.specs.declared.place.Place as source;
 ghost use Rattle.vlog_tree.specs.declared.item.Instance as tree;
 ghost use Rattle.vlog_tree.specs.declared.module.Module.{Module};
@@ -10,18 +10,19 @@ ghost use Rattle.scope_meaning.specs.Visits.{module_scope, start};
 ghost use Rattle.elab_overrides.specs.Given.{AreGiven};
 ghost use Rattle.elab_names.specs.Frames.{AreFrames, IsGenvar};
 ghost use Rattle.walk_laws.specs.Rest.{Task};
-ghost use Rattle.walk_state.specs.Standing.{IsAt, AreLeft};
+ghost use Rattle.walk_state.specs.Standing.{IsAt, AreLeft, IsOnWay};
 ghost use Rattle.walk_entries.specs.Instances as spec;
 ghost use Rattle.walk_entries.specs.Instances.{HasInstance};
 
 use cov_types::{ByteText, NoMemory, Rows};
+use elab_modules::OpenModules;
 use elab_names::{ScopeNames, declared_by_module};
 use elab_overrides::Givens;
 use name_table::NameTable;
 use std::alloc::Global;
 use std::mem;
 use vlog_tree::Module;
-use walk_state::{Entered, Left, MadeBy, Record, ScopePlace, Walk};
+use walk_state::{Entered, Left, MadeBy, Record, ScopePlace, Stack, Walk};
 
 /// Records an instance: its row in the scope around it, and the entry of its module.
 fn record_instance(
@@ -109,6 +110,7 @@ pub fn enter_instance<'a>(
     let place = place_in(alloc, number, by.number, path, given);
     let names = mem::replace(&mut walk.names, inner);
     let around = mem::replace(&mut walk.here, place);
+    walk.above.enter(by.number as usize);
     walk.left.push(Left::EndOfModule {
         around,
         names,
@@ -118,4 +120,50 @@ pub fn enter_instance<'a>(
     walk.left.push(Left::Header { of: by.of, items })?;
     walk.next = number + 1;
     Ok(())
+}
+
+/// The entry of the top module, as all that is recorded.
+fn record_top(alloc: Global, number: u32, top: &[u8]) -> Result<Rows<Record>, NoMemory>
+    ensures { IfOk result (λ records. records ≡ spec.top_records number top.now) }
+{
+    let path = ByteText::from_slice(alloc, top)?;
+    let mut records = Rows::new(alloc);
+    records.push(Record::Enters(Entered {
+        number: 0,
+        parent: None,
+        path,
+        in_module: number,
+        home: 0,
+    }))?;
+    Ok(records)
+}
+
+/// Where a walk begins: before the header of the top module, which has this number among so many modules.
+pub fn begin<'a>(
+    alloc: Global,
+    of: &'a Module,
+    number: u32,
+    count: usize,
+    top: &[u8],
+) -> Result<Walk<'a>, NoMemory>
+    ensures { (design : List Module) → length design ≡ count → module_named design top.now ≡ Some (number, of.now)
+        → IfOk result (IsOnWay design top.now) }
+{
+    let names = names_of(alloc, of)?;
+    let path = ByteText::from_slice(alloc, top)?;
+    let records = record_top(alloc, number, top)?;
+    let mut above = OpenModules::none(alloc, count)?;
+    above.enter(number as usize);
+    let items = of.params.as_slice();
+    let mut left = Stack::new(alloc);
+    left.push(Left::Header { of, items })?;
+    let here = place_in(alloc, 0, number, path, Givens::none(alloc));
+    Ok(Walk {
+        next: 1,
+        here,
+        names,
+        above,
+        left,
+        records,
+    })
 }

@@ -5,4 +5,4 @@ mod block;
 mod instance;
 
 pub use block::enter_block;
-pub use instance::enter_instance;
+pub use instance::{begin, enter_instance};

@@ -16,7 +16,9 @@ use Rattle.scope_meaning.specs.Heads.{declared_constants}
 use Rattle.scope_meaning.specs.Visits.{Visit, Visits, sees, an_item, a_port, has_constant, past, with_next, body_scope}
 use Rattle.scope_meaning.specs.ScopeRules.{refusal}
 use Rattle.scope_meaning.specs.ScopeTrees.{seen_constant}
+use Rattle.elab_modules.specs.Above.{AreAbove}
 use Rattle.elab_names.specs.Frames.{AreFrames}
+use Rattle.elab_overrides.specs.declared.given.Givens.{Givens}
 use Rattle.elab_overrides.specs.Given.{AreGiven}
 use Rattle.walk_laws.specs.Rest.{Task, a_header, some_ports, some_items, Rest}
 use Rattle.walk_laws.specs.Stands.{AreCalm}
@@ -43,9 +45,10 @@ opened : {design : List Module} {top : List ℕ} {done : Visits} {here : Here} {
     → IsOpening design top done here place by m tasks under w
     → AreCalm design vs → AreRecorded vs more
     → ((ws : Visits) (whole : Bool) → Rest design new (with_next to w.next) ws whole → Rest design tasks (with_next place w.next) (vs ++ ws) whole)
-    → IsAt there to scope → AreFrames (frames there to) w.names.items → AreLeft design there to lefts new → records ≡ w.records ++ more
+    → IsAt there to scope → AreFrames (frames there to) w.names.items → there.above ≡ here.above → AreLeft design there to lefts new
+    → records ≡ w.records ++ more
     → IsOnWay design top (with w scope lefts records)
-opened {done = done} {w = w} vs more there to new scope lefts records s calm recorded step at names left e = record {
+opened {design} {done = done} {w = w} vs more there to new scope lefts records s calm recorded step at names same left e = record {
   done = done ++ vs;
   here = there;
   place = to;
@@ -54,6 +57,7 @@ opened {done = done} {w = w} vs more there to new scope lefts records s calm rec
     stands = goes_on_to vs s.stands calm step;
     scope = at;
     names = names;
+    above = subst (λ (names : List (List ℕ)). AreAbove design names w.above) (sym same) s.above;
     left = left;
     records = recorded-more done vs w.records more records s.records recorded e;
   };
@@ -76,7 +80,7 @@ parameter_past {design} {here = here} {place = place} {a = a} {under = under} {w
     ∙ ap (λ (os : List (Option ElabFault)). None ∷ os) (calm-constants design n known))
     (recorded-constants n known ∙ sym (append-nil (map (has_constant n) known)) ∙ ap (λ (k : ℕ). map (has_constant k) known ++ []) (sym s.scope.number))
     (λ ws whole r. past_parameter values r)
-    s.scope s.names
+    s.scope s.names refl
     (subst (λ (ls : List Left). AreLeft design here to ls (a_header here m.now rest.now ∷ under)) (sym pushed) (header s.left))
     noted
 
@@ -87,7 +91,7 @@ pub header_past : {design : List Module} {top : List ℕ} {done : Visits} {here 
     → IsOnWay design top (with w w.here lefts w.records)
 header_past {design} {here = here} {place = place} {under = under} {w = w} m all lefts s same pushed =
     opened [] [] here place (some_ports here m.now m.now.ports ∷ under) w.here lefts w.records s refl refl (λ ws whole r. behind_header r)
-    s.scope s.names
+    s.scope s.names refl
     (subst (λ (ls : List Left). AreLeft design here place ls (some_ports here m.now m.now.ports ∷ under)) (sym pushed)
     (subst (λ (ps : List Port). AreLeft design here place (left.Ports m all ∷ w.left) (some_ports here m.now ps ∷ under)) same (ports s.left)))
     (sym (append-nil w.records))
@@ -101,6 +105,67 @@ pub port_past : {design : List Module} {top : List ℕ} {done : Visits} {here : 
 port_past {design} {here = here} {place = place} {p = p} {under = under} {w = w} m rest lefts s calm pushed =
     opened (sees (a_port here (with_next place w.next) p) ∷ []) [] here (past_the place p) (some_ports here m.now rest.now ∷ under) w.here lefts w.records s
     (ap (λ (o : Option ElabFault). o ∷ []) calm) refl (λ ws whole r. past_port r)
-    s.scope s.names
+    s.scope s.names refl
     (subst (λ (ls : List Left). AreLeft design here (past_the place p) ls (some_ports here m.now rest.now ∷ under)) (sym pushed) (ports s.left))
     (sym (append-nil w.records))
+
+-- No port is left, and the items come.
+body_frames : (here : Here) (at : At) (b : Bool) → frames here at ≡ frames (if b then record here { given = [] } else here) at
+body_frames here at true = refl
+body_frames here at false = refl
+
+body_above : (here : Here) (b : Bool) → (if b then record here { given = [] } else here).above ≡ here.above
+body_above here true = refl
+body_above here false = refl
+
+pub ports_past : {design : List Module} {top : List ℕ} {done : Visits} {here : Here} {place : At} {under : List Task} {w : Walk}
+    (m : Bor Module) (all : Bor (List Item)) (scope : ScopePlace) (lefts : List Left)
+    → IsOpening design top done here place place m.now (some_ports here m.now [] ∷ under) under w
+    → IsAt (body_scope here m.now) (record place { item = 0 }) scope → all.now ≡ m.now.items → lefts ≡ left.Items all ∷ w.left
+    → IsOnWay design top (with w scope lefts w.records)
+ports_past {design} {here = here} {place = place} {under = under} {w = w} m all scope lefts s is same pushed =
+    let body : Here = body_scope here m.now in
+    let to : At = record place { item = 0 } in
+    opened [] [] body to (some_items body m.now.items ∷ under) scope lefts w.records s refl refl (λ ws whole r. behind_ports r)
+    is (subst (λ (fs : List Frame). AreFrames fs w.names.items) (body_frames here place (has_header m.now)) s.names) (body_above here (has_header m.now))
+    (subst (λ (ls : List Left). AreLeft design body to ls (some_items body m.now.items ∷ under)) (sym pushed)
+    (subst (λ (rows : List Item). AreLeft design body to (left.Items all ∷ w.left) (some_items body rows ∷ under)) same (below (items s.left))))
+    (sym (append-nil w.records))
+
+first_in : {here : Here} {at : At} {p : ScopePlace} → IsAt here at p → IsAt here (record at { item = 0 }) (record p { item = 0 })
+first_in is = record {
+  number = is.number;
+  path = is.path;
+  its_module = is.its_module;
+  home = is.home;
+  given = is.given;
+  earlier = is.earlier;
+  item = refl;
+  construct = is.construct;
+}
+
+first_behind : {here : Here} {at : At} {p : ScopePlace} (given : Givens) → IsAt here at p → AreGiven [] given
+    → IsAt (record here { given = [] }) (record at { item = 0 }) (record p { item = 0; given = given })
+first_behind given is none = record {
+  number = is.number;
+  path = is.path;
+  its_module = is.its_module;
+  home = is.home;
+  given = none;
+  earlier = is.earlier;
+  item = refl;
+  construct = is.construct;
+}
+
+-- The first item of a module without a header has the values that are given to it,
+pub first_of_all : {here : Here} {at : At} {p : ScopePlace} (m : Module) → IsAt here at p → has_header m ≡ false
+    → IsAt (body_scope here m) (record at { item = 0 }) (record p { item = 0 })
+first_of_all {here} {at} {p} m is e =
+    subst (λ (b : Bool). IsAt (if b then record here { given = [] } else here) (record at { item = 0 }) (record p { item = 0 })) (sym e) (first_in is)
+
+-- that of one with a header none.
+pub first_of_rest : {here : Here} {at : At} {p : ScopePlace} (m : Module) (given : Givens) → IsAt here at p → AreGiven [] given → has_header m ≡ true
+    → IsAt (body_scope here m) (record at { item = 0 }) (record p { item = 0; given = given })
+first_of_rest {here} {at} {p} m given is none e =
+    subst (λ (b : Bool). IsAt (if b then record here { given = [] } else here) (record at { item = 0 }) (record p { item = 0; given = given })) (sym e)
+    (first_behind given is none)

@@ -3,4 +3,4 @@
 
 mod header;
 
-pub use header::{past_parameter, past_port, to_ports};
+pub use header::{past_parameter, past_port, to_body, to_ports};

@@ -31,7 +31,7 @@ use Rattle.walk_laws.specs.Rest.{Task, some_items, a_turn_of, a_step_of, some_in
 use Rattle.walk_laws.specs.Stands.{AreCalm}
 use Rattle.walk_laws.proofs.Thens.{opens, closes}
 use Rattle.walk_laws.proofs.Standings.{goes_on_to}
-use Rattle.walk_laws.proofs.Steps.{past_item, into_instances, into_loop, test_seen, step_seen, past_loop, past_step_of}
+use Rattle.walk_laws.proofs.Steps.{past_item, into_region, into_instances, into_loop, test_seen, step_seen, past_loop, past_step_of}
 use Rattle.walk_laws.proofs.Modules.{behind_instances}
 use Rattle.walk_state.specs.declared.left.Left.{Left}
 use Rattle.walk_state.specs.declared.left.Left.TheVariants as left
@@ -42,7 +42,7 @@ use Rattle.walk_state.specs.declared.record.Record.TheVariants as its
 use Rattle.walk_state.specs.declared.place.ScopePlace.{ScopePlace}
 use Rattle.walk_state.specs.declared.walk.Walk.{Walk}
 use Rattle.walk_state.specs.Records.{visits_of, is_recorded, AreRecorded}
-use Rattle.walk_state.specs.Standing.{IsAt, IsLoop, AreLeft, below, turn, instances, IsOnWay, IsMidway, IsTaken}
+use Rattle.walk_state.specs.Standing.{IsAt, IsLoop, AreLeft, items as items_first, below, turn, instances, IsOnWay, IsMidway, IsTaken}
 
 -- More records are those of more visits.
 pub recorded-more : (done vs : Visits) (records more new : List Record)
@@ -84,6 +84,7 @@ moved {design} {top} {done} {here} {w = w} vs more to new scope left records m c
     stands = goes_on_to vs m.stands calm step;
     scope = at;
     names = names;
+    above = m.above;
     left = lefts;
     records = recorded-more done vs w.records more records m.records recorded e;
   };
@@ -108,14 +109,16 @@ past_row {design} {here = here} {place = place} {a = a} {items = items} {under =
 two_more : (records row old : List Record) (r s : Record) → row ≡ old ++ r ∷ [] → records ≡ row ++ s ∷ [] → records ≡ old ++ (r ∷ s ∷ [])
 two_more records row old r s e f = f ∙ ap (λ (rs : List Record). rs ++ s ∷ []) e ∙ append_assoc old (r ∷ []) (s ∷ [])
 
-pub past_constants : {design : List Module} {top : List ℕ} {done : Visits} {here : Here} {place : At} {a : Item} {items : List Item} {under : List Task} {w : Walk}
+pub past_constants : {design : List Module} {top : List ℕ} {done : Visits} {here : Here} {place : At} {a : Item} {items : List Item} {under : List Task}
+    {w : Walk}
     {is_local : Bool} {form : ParamForm} {names : List ParamName} (cs : List ConstantRow) (item : ℕ) (row records : List Record)
     → IsMidway design top done here place (past place a (map seen_constant cs)) (some_items here (a ∷ items) ∷ under) (some_items here items ∷ under) w
     → item ≡ place.item → IsTaken design here (with_next place w.next) a → layer a ≡ i.Parameter is_local form names
     → constants_of here (with_next place w.next) is_local form names ≡ Some (map seen_constant cs)
     → row ≡ w.records ++ its.HasRow w.here.number item None ∷ [] → records ≡ row ++ its.HasConstants w.here.number cs ∷ []
     → IsOnWay design top (with w w.here w.left records)
-past_constants {design} {here = here} {place = place} {a = a} {items = items} {under = under} {w = w} {is_local = is_local} {form = form} {names = names} cs item row records m e taken l values pushed noted =
+past_constants {design} {here = here} {place = place} {a = a} {items = items} {under = under} {w = w} {is_local = is_local} {form = form} {names = names} cs
+    item row records m e taken l values pushed noted =
     let n : ℕ = here.number in
     let known : List Constant = map seen_constant cs in
     let at : At = with_next place w.next in
@@ -158,7 +161,8 @@ begun {design} {here = here} {under = under} {w = w} v to t frame left m calm un
     step at names (subst (λ (ls : List Left). AreLeft design here to ls (t ∷ under)) (sym e) lefts) (sym (append-nil w.records))
 
 -- Instances are,
-pub begun_instances : {design : List Module} {top : List ℕ} {done : Visits} {here : Here} {place : At} {a : Item} {rest : List Item} {under : List Task} {w : Walk}
+pub begun_instances : {design : List Module} {top : List ℕ} {done : Visits} {here : Here} {place : At} {a : Item} {rest : List Item} {under : List Task}
+    {w : Walk}
     (by : Box MadeBy) (made : Bor (List Instance)) (lefts : List Left) (of : List ℕ)
     → IsMidway design top done here place (past place a []) (some_items here (a ∷ rest) ∷ under) (some_items here rest ∷ under) w
     → IsTaken design here (with_next place w.next) a → layer a ≡ i.Instances of by.value.params.now made.now
@@ -192,7 +196,8 @@ begun_loop {here = here} {place = place} {a = a} {w = w} {l = l} passes value le
     (same_at w.next m.scope) m.names (turn (same_loop w.next is_loop) m.left) pushed
 
 -- and the next of them.
-pub begun_turn : {design : List Module} {top : List ℕ} {done : Visits} {here : Here} {place : At} {a : Item} {l : GenLoop} {n : ℤ} {under : List Task} {w : Walk}
+pub begun_turn : {design : List Module} {top : List ℕ} {done : Visits} {here : Here} {place : At} {a : Item} {l : GenLoop} {n : ℤ} {under : List Task}
+    {w : Walk}
     (passes : Box LoopPasses) (value : ℤ) (lefts : List Left)
     → IsMidway design top done here (past place a []) (past place a []) (a_step_of here place a l n ∷ under) under w
     → refusal design (step_seen here place a l n) ≡ None → genvar_value (names_in_pass here place l.name n) l.step ≡ Some value
@@ -204,7 +209,8 @@ begun_turn {here = here} {place = place} {a = a} {l = l} {n = n} {w = w} passes 
     m.scope m.names (turn is_loop m.left) pushed
 
 -- Nothing more of it is left: a generate loop ends at a test,
-pub ended_loop : {design : List Module} {top : List ℕ} {done : Visits} {here : Here} {place : At} {a : Item} {l : GenLoop} {n : ℤ} {under : List Task} {w : Walk}
+pub ended_loop : {design : List Module} {top : List ℕ} {done : Visits} {here : Here} {place : At} {a : Item} {l : GenLoop} {n : ℤ} {under : List Task}
+    {w : Walk}
     → IsMidway design top done here (past place a []) (past place a []) (a_turn_of here place a l n ∷ under) under w
     → refusal design (test_seen here place a l n) ≡ None → test_of (names_in_pass here place l.name n) l.test ≡ Some false
     → IsOnWay design top w
@@ -225,7 +231,8 @@ ended_choice {design} {here = here} {place = place} {a = a} {rest = rest} {under
     let at : At = with_next place w.next in
     moved (sees (an_item here at a) ∷ []) [] (past place a []) (some_items here rest ∷ under) w.here w.left w.records m
     (ap (λ (o : Option ElabFault). o ∷ []) taken) refl
-    (λ ws whole r. past_item (subst (λ (k : Layer). IsWalked design here at a k (sees (an_item here at a) ∷ []) (past at a []) true) (sym l) (no_choice chosen)) r)
+    (λ ws whole r. past_item (subst (λ (k : Layer). IsWalked design here at a k (sees (an_item here at a) ∷ []) (past at a []) true) (sym l)
+    (no_choice chosen)) r)
     m.scope m.names (below m.left) (sym (append-nil w.records))
 
 -- or no instance is left.
@@ -237,3 +244,26 @@ ended_instances {place = place} {a = a} {under = under} {w = w} m =
     moved [] [] (past place a []) under w.here w.left w.records m refl refl
     (λ ws whole r. behind_instances r)
     m.scope m.names (below m.left) (sym (append-nil w.records))
+
+-- The items of a region come first.
+pub begun_region : {design : List Module} {top : List ℕ} {done : Visits} {here : Here} {place : At} {a : Item} {rest : List Item} {under : List Task}
+    {w : Walk}
+    (inner : Bor (List Item)) (item : ℕ) (lefts : List Left)
+    → IsMidway design top done here place place (some_items here (a ∷ rest) ∷ under) (some_items here rest ∷ under) w
+    → layer a ≡ i.Generate inner.now → item ≡ w.here.item + 1 → lefts ≡ left.Items inner ∷ w.left
+    → IsOnWay design top (with w (record w.here { item = item }) lefts w.records)
+begun_region {design} {here = here} {place = place} {rest = rest} {under = under} {w = w} inner item lefts m l more pushed =
+    let to : At = record place { item = place.item + 1 } in
+    let new : List Task = some_items here inner.now ∷ some_items here rest ∷ under in
+    let is : IsAt here to (record w.here { item = item }) = record {
+      number = m.scope.number;
+      path = m.scope.path;
+      its_module = m.scope.its_module;
+      home = m.scope.home;
+      given = m.scope.given;
+      earlier = m.scope.earlier;
+      item = more ∙ ap (λ (k : ℕ). k + 1) m.scope.item;
+      construct = m.scope.construct;
+    } in
+    moved [] [] to new (record w.here { item = item }) lefts w.records m refl refl (λ ws whole r. into_region l r) is m.names
+    (subst (λ (ls : List Left). AreLeft design here to ls new) (sym pushed) (below (items_first m.left))) (sym (append-nil w.records))

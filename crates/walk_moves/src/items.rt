@@ -1,4 +1,4 @@
-ghost use Rattle.std.specs.Prelude.{◌≡◌, ℕ, true, false, List, [], ◌∷◌, map, Bool, Some, None, OnOk, ℤ};
+ghost use Rattle.std.specs.Prelude.{◌≡◌, ℕ, ◌+◌, true, false, List, [], ◌∷◌, map, Bool, Some, None, IfOk, OnOk, ℤ};
 ghost use Rattle.vlog_tree.specs.declared.item.Item.{Item};
 ghost use Rattle.vlog_tree.specs.declared.item.ItemKind.TheOpen as i;
 ghost use Rattle.vlog_tree.specs.declared.item.ParamForm.{ParamForm};
@@ -17,7 +17,7 @@ ghost use Rattle.walk_state.specs.Standing.{IsOnWay, IsMidway, IsTaken, IsLoop};
 
 use cov_types::{NoMemory, Rows};
 use elab_types::Constant;
-use vlog_tree::Instance;
+use vlog_tree::{Instance, Item};
 use walk_state::{Left, LoopPasses, MadeBy, Record, Walk};
 
 /// Goes past an item of this number that makes no scope and no constant: it has one row.
@@ -105,5 +105,27 @@ pub fn to_turn<'a>(
         → OnOk result (IsOnWay design top walk.new) }
 {
     walk.left.push(Left::Turn { passes, value })?;
+    Ok(())
+}
+
+/// The next number.
+pub fn number_after(number: u32) -> Result<u32, NoMemory>
+    ensures { IfOk result (λ next. next ≡ number + 1) }
+{
+    match number.checked_add(1) {
+        Some(next) => Ok(next),
+        None => Err(NoMemory),
+    }
+}
+
+/// Goes from a `generate` region to the first of its items.
+pub fn to_region<'a>(walk: &mut Walk<'a>, items: &'a [Item]) -> Result<(), NoMemory>
+    ensures { (design : List Module) (top : List ℕ) (done : Visits) (here : Here) (place : At) (a : Item) (rest : List Item) (under : List Task)
+        → IsMidway design top done here place place (some_items here (a ∷ rest) ∷ under) (some_items here rest ∷ under) walk.old
+        → layer a ≡ i.Generate items.now → OnOk result (IsOnWay design top walk.new) }
+{
+    let item = number_after(walk.here.item)?;
+    walk.here.item = item;
+    walk.left.push(Left::Items { items })?;
     Ok(())
 }

@@ -3,4 +3,6 @@
 
 mod items;
 
-pub use items::{past_parameters, past_plain, to_instances, to_loop, to_turn};
+pub use items::{
+    number_after, past_parameters, past_plain, to_instances, to_loop, to_region, to_turn,
+};

@@ -18,6 +18,7 @@ use Rattle.scope_meaning.specs.Standing.{standing}
 use Rattle.scope_meaning.specs.ScopeRules.{refusal_at}
 use Rattle.elab_overrides.specs.Given.{AreGiven}
 use Rattle.elab_overrides.specs.Overrides.{AreAmong}
+use Rattle.elab_modules.specs.Above.{AreAbove}
 use Rattle.elab_names.specs.declared.scope_names.ScopeNames.{ScopeNames}
 use Rattle.elab_names.specs.Frames.{AreFrames}
 use Rattle.walk_laws.specs.Rest.{Task, a_header, some_ports, some_items, a_turn_of, a_step_of, some_instances, an_end}
@@ -58,7 +59,7 @@ mutual
     items : {here : Here} {its : Bor (List Item)} {under : List Left} {tasks : List Task}
         → AreBelow design here under tasks → AreBelow design here (left.Items its ∷ under) (some_items here its.now ∷ tasks)
     in_block : {here outer : Here} {place : At} {around : ScopePlace} {under : List Left} {tasks : List Task}
-        → IsAt outer place around → here.outer ≡ frames outer place → AreLeft design outer place under tasks
+        → IsAt outer place around → here.outer ≡ frames outer place → here.above ≡ outer.above → AreLeft design outer place under tasks
         → AreBelow design here (left.EndOfBlock around ∷ under) (an_end place ∷ tasks)
     in_module : {here outer : Here} {place : At} {around : ScopePlace} {names : Vec ScopeNames} {number : ℕ} {m : Module} {under : List Left}
         {tasks : List Task}
@@ -91,6 +92,7 @@ pub record IsStanding (design : List Module) (top : List ℕ) (done : Visits) (h
   pub stands : Stands design top done tasks (with_next place w.next)
   pub scope : IsAt here place w.here
   pub names : AreFrames (frames here place) w.names.items
+  pub above : AreAbove design here.above w.above
   pub left : AreLeft design here place w.left tasks
   pub records : AreRecorded done w.records
 
@@ -108,6 +110,7 @@ pub record IsMidway (design : List Module) (top : List ℕ) (done : Visits) (her
   pub stands : Stands design top done tasks (with_next place w.next)
   pub scope : IsAt here by w.here
   pub names : AreFrames (frames here by) w.names.items
+  pub above : AreAbove design here.above w.above
   pub left : AreBelow design here w.left under
   pub records : AreRecorded done w.records
 

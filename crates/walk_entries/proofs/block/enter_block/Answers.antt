@@ -12,8 +12,16 @@ pub returns : goal.returns
 returns c = λ design here by at name genvar under is are lefts numbered same_item same its_path is_genvar.
     let old = c.args.walk.now in
     let block = block_scope here at name genvar c.args.items.now in
-    has_entered old (record { next = old.next + 1; here = c.replace-around.new.dest; names = c.open_names.new.names; left = c.push-2.new.self; records = c.record_block.new.records })
-    c.args.item c.args.path c.args.pass numbered same refl
+    has_entered old (record {
+      next = old.next + 1;
+      here = c.replace-around.new.dest;
+      names = c.open_names.new.names;
+      above = old.above;
+      left = c.push-2.new.self;
+      records =
+          c.record_block.new.records;
+    })
+    c.args.item c.args.path c.args.pass numbered same refl refl
     (subst (λ (p : ScopePlace). IsAt block (start at.next c.args.first) p) (sym c.replace-around.ensures.after)
     (c.place_in-inner.ensures here by at name genvar c.args.items.now is (sym numbered) its_path))
     c.in_ok-open_names.ensures are is_genvar
