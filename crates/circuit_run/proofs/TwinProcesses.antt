@@ -80,7 +80,8 @@ twins_in_turn s w no_twins = agrees_unchanged _ s
 twins_in_turn {N} {M} {marks} s w (more_twins {p} {q} {ps} {qs} t ts) =
     let here = t.runs s w in
     agrees_joined here
-    (subst (λ z. Agrees marks (in_turn (map (λ p. p.run) ps) (p.run s).state) (in_turn (map (λ q. q.run) qs) z)) (sym here.state) (twins_in_turn (p.run s).state (t.keeps s w) ts))
+    (subst (λ z. Agrees marks (in_turn (map (λ p. p.run) ps) (p.run s).state) (in_turn (map (λ q. q.run) qs) z)) (sym here.state)
+    (twins_in_turn (p.run s).state (t.keeps s w) ts))
 
 -- whether some process has the bit among its targets
 pub twins_driven : {N M : Type 0} {marks : N → List M} {vars : List Var} {ps : List (Process N)} {qs : List (Process M)} (b : Bit) → IsBitOf vars b

@@ -166,7 +166,8 @@ twins_run N M marks c d twins rows r h =
         start = h.start;
         is_start = twin_start marks c d twins h.start h.is_start;
         opened = refl;
-        cycles = subst (λ s. AreCycles d s (rows_after t.opened rows) t.cycles) registers (subst (λ rs. AreCycles d (all_written r.opened.state r.opened.updates) rs t.cycles) then_rows (twin_cycles marks c d twins h.cycles));
+        cycles = subst (λ s. AreCycles d s (rows_after t.opened rows) t.cycles) registers
+            (subst (λ rs. AreCycles d (all_written r.opened.state r.opened.updates) rs t.cycles) then_rows (twin_cycles marks c d twins h.cycles));
       },
       record {
         opened = opened;

@@ -126,7 +126,8 @@ stops_alike held done_a done_b m n a b one (overfull text here long) (overfull t
 stops_once : (held : Names) (names : List (List ℕ)) (a b : Answer) → Stop held names a → Stop held names b → a ≡ b
 stops_once held names a b one two = elim (cuts one.before one.name one.after two.before two.name two.after (sym one.split ∙ two.split)) [
   | at_one is name ↦ stops_alike held one.done two.done one.name two.name a b name one.why two.why
-  | sooner more is ↦ absurd (stops_unread held two.before two.done a (stops_in held two.before one.before one.done more one.name a is one.read one.why) two.read)
+  | sooner more is ↦ absurd (stops_unread held two.before two.done a (stops_in held two.before one.before one.done more one.name a is one.read one.why)
+      two.read)
   | later more is ↦ absurd (stops_unread held one.before one.done b (stops_in held one.before two.before two.done more two.name b is two.read two.why) one.read)
 ]
 
@@ -155,16 +156,20 @@ one_design reading file number text a b one two =
 -- a design is not refused
 design_refused : OneReading → (number : ℕ) (name text : List ℕ) (file : SourceFile) (answer : Answer) → IsDesign number text file
     → RefusesDesign number name text answer → ⊥
-design_refused reading number name text file answer is (tokens fault read) = ok_err is.tokens fault (reading number text (Ok is.tokens) (Err fault) is.reading read)
+design_refused reading number name text file answer is (tokens fault read) = ok_err is.tokens fault
+    (reading number text (Ok is.tokens) (Err fault) is.reading read)
 design_refused reading number name text file answer is (grammar found place read outside there) =
-    outside file (subst (λ (t : TokenList). SpellsFile t file) (ok_same is.tokens found (reading number text (Ok is.tokens) (Ok found) is.reading read)) is.tree)
+    outside file (subst (λ (t : TokenList). SpellsFile t file) (ok_same is.tokens found (reading number text (Ok is.tokens) (Ok found) is.reading read))
+    is.tree)
 
 -- a design is refused with one answer, but for the place of `Syntax`
 refusals_agree : OneReading → (number : ℕ) (name text : List ℕ) (a b : Answer) → RefusesDesign number name text a → RefusesDesign number name text b → Agree a b
 refusals_agree reading number name text a b (tokens fault read) (tokens found again) =
     agree _ _ (ap (token_refusal name) (err_same fault found (reading number text (Err fault) (Err found) read again)))
-refusals_agree reading number name text a b (tokens fault read) (grammar found place again outside there) = absurd (ok_err found fault (reading number text (Ok found) (Err fault) again read))
-refusals_agree reading number name text a b (grammar found place read outside there) (tokens fault again) = absurd (ok_err found fault (reading number text (Ok found) (Err fault) read again))
+refusals_agree reading number name text a b (tokens fault read) (grammar found place again outside there) = absurd
+    (ok_err found fault (reading number text (Ok found) (Err fault) again read))
+refusals_agree reading number name text a b (grammar found place read outside there) (tokens fault again) = absurd
+    (ok_err found fault (reading number text (Ok found) (Err fault) read again))
 refusals_agree reading number name text a b (grammar found place read outside there) (grammar other q again without here) = syntax_place name place q
 
 -- texts are one list of designs
@@ -226,22 +231,28 @@ checks_agree reading file held names a b (too_many many) (all_accepted texts fil
 checks_agree reading file held names a b (stopped answer few stops) (too_many many) = absurd (omega arith)
 checks_agree reading file held names a b (stopped answer few stops) (stopped other fewer ends) =
     agree answer other (stops_once held names answer other (stop_of held names answer stops) (stop_of held names other ends))
-checks_agree reading file held names a b (stopped answer few stops) (refused_file texts other fewer read refusal) = absurd (stops_unread held names texts answer stops read)
-checks_agree reading file held names a b (stopped answer few stops) (all_accepted texts files fewer read designs) = absurd (stops_unread held names texts answer stops read)
+checks_agree reading file held names a b (stopped answer few stops) (refused_file texts other fewer read refusal) = absurd
+    (stops_unread held names texts answer stops read)
+checks_agree reading file held names a b (stopped answer few stops) (all_accepted texts files fewer read designs) = absurd
+    (stops_unread held names texts answer stops read)
 checks_agree reading file held names a b (refused_file texts answer few read refusal) (too_many many) = absurd (omega arith)
-checks_agree reading file held names a b (refused_file texts answer few read refusal) (stopped other fewer stops) = absurd (stops_unread held names texts other stops read)
+checks_agree reading file held names a b (refused_file texts answer few read refusal) (stopped other fewer stops) = absurd
+    (stops_unread held names texts other stops read)
 checks_agree reading file held names a b (refused_file texts answer few read refusal) (refused_file others other fewer again refused_too) =
-    firsts_agree reading names others answer other (subst (λ (ts : List (List ℕ)). RefusesOne names ts answer) (one_text held names texts others read again) refusal) refused_too
+    firsts_agree reading names others answer other
+    (subst (λ (ts : List (List ℕ)). RefusesOne names ts answer) (one_text held names texts others read again) refusal) refused_too
 checks_agree reading file held names a b (refused_file texts answer few read refusal) (all_accepted others files fewer again designs) =
     absurd (refused_within reading names texts others refusal.texts_after files answer refusal (one_text held names others texts again read
     ∙ refusal.texts_split) designs)
 checks_agree reading file held names a b (all_accepted texts files few read designs) (too_many many) = absurd (omega arith)
-checks_agree reading file held names a b (all_accepted texts files few read designs) (stopped other fewer stops) = absurd (stops_unread held names texts other stops read)
+checks_agree reading file held names a b (all_accepted texts files few read designs) (stopped other fewer stops) = absurd
+    (stops_unread held names texts other stops read)
 checks_agree reading file held names a b (all_accepted texts files few read designs) (refused_file others other fewer again refusal) =
     absurd (refused_within reading names others texts refusal.texts_after files other refusal (one_text held names texts others read again
     ∙ refusal.texts_split) designs)
 checks_agree reading file held names a b (all_accepted texts files few read designs) (all_accepted others more fewer again all) =
-    agree _ _ (ap accepted (one_list reading file 0 others files more (subst (λ (ts : List (List ℕ)). AreDesigns 0 ts files) (one_text held names texts others read again) designs) all))
+    agree _ _ (ap accepted (one_list reading file 0 others files more
+    (subst (λ (ts : List (List ℕ)). AreDesigns 0 ts files) (one_text held names texts others read again) designs) all))
 
 -- an answer that agrees with one that is done is the same
 agree_done : (a b : Answer) → Agree a b → b.status ≡ Done → a ≡ b

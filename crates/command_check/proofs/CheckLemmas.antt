@@ -40,13 +40,15 @@ many_stop names told faults e many is =
 
 long_refuses : (names : List (List ℕ)) (status : Status) (line : List ℕ) → length names ≤ 4096 → IsTooLong status line → CheckRefuses names status line
 long_refuses names status line few is =
-    subst (λ (s : Status). CheckRefuses names s line) (sym is.status_is) (subst (λ (l : List ℕ). CheckRefuses names Limit l) (sym is.line_is) (promise.too_long few))
+    subst (λ (s : Status). CheckRefuses names s line) (sym is.status_is)
+    (subst (λ (l : List ℕ). CheckRefuses names Limit l) (sym is.line_is) (promise.too_long few))
 
 -- files that were not read
 pub unread_stop : (names : List (List ℕ)) (told : Option Names) (before now : FileFaults) (e : Ending) → length names ≤ 4096
     → Stops (designs_promise names) told before now e → Stops (check_promise names) told before now e
 unread_stop names told before now e few is =
-    stops_weaker (designs_promise names) (check_promise names) told before now e (λ name there. (few, there)) (λ status line may. long_refuses names status line few may)
+    stops_weaker (designs_promise names) (check_promise names) told before now e (λ name there. (few, there))
+    (λ status line may. long_refuses names status line few may)
     (always_told told _ (λ held answer one. stopped answer few one)) is
 
 -- a design that is refused
@@ -54,7 +56,8 @@ pub refusal_stop : FaultFromOne → TokensFromOne → (names texts : List (List 
     → length names ≤ 4096 → now ≡ before
     → IfSome told (λ held. AreRead held names texts) → IsRefusal (RefusesOne names texts) e → Stops (check_promise names) told before now e
 refusal_stop from_fault from_tokens names texts told before now e few quiet read is =
-    refusal_stops (check_promise names) (RefusesOne names texts) told before now e quiet (λ status line one. one_refuses from_fault from_tokens names texts (refused_with status line) few one)
+    refusal_stops (check_promise names) (RefusesOne names texts) told before now e quiet
+    (λ status line one. one_refuses from_fault from_tokens names texts (refused_with status line) few one)
     (if_told told _ _ (λ held whole answer one. refused_file texts answer few whole one) read) is
 
 -- the number of modules is put out

@@ -44,7 +44,8 @@ pub unread_stops : (told : Option Names) (before now : FileFaults) (names done r
     → names ≡ done ++ name ∷ rest → Holds told done texts → room + sum (map length texts) ≡ 4194304 → Contains names name
     → Stops (design_promise name room) told before now e → Stops (designs_promise names) told before now e
 unread_stops told before now names done rest texts name room e split all few there is =
-    stops_weaker (design_promise name room) (designs_promise names) told before now e (λ other same. subst (Contains names) (sym same) there) (λ status line may. may)
+    stops_weaker (design_promise name room) (designs_promise names) told before now e (λ other same. subst (Contains names) (sym same) there)
+    (λ status line may. may)
     (if_told told (λ held. map held done ≡ map Some texts) _ (λ held hold. answer held hold) all) is where
       answer : (held : Names) → map held done ≡ map Some texts → (a : Answer)
           → ((held name ≡ None) × (a ≡ absent name)) ⊎ (IsLonger name room held × (a ≡ over_limit DesignBytes)) → StopsReading held names a
@@ -52,7 +53,8 @@ unread_stops told before now names done rest texts name room e split all few the
           subst (StopsReading held names) (sym none.1) (lacking done rest texts name split (record { hold = hold; few = within }) none.0)
       answer held hold a (inr long) =
           let more = sum_more length texts long.0.0 in let size = long.0.2 in
-          subst (StopsReading held names) (sym long.1) (too_long done rest texts name long.0.0 split (record { hold = hold; few = omega arith }) long.0.1 (omega (arith, more)))
+          subst (StopsReading held names) (sym long.1)
+          (too_long done rest texts name long.0.0 split (record { hold = hold; few = omega arith }) long.0.1 (omega (arith, more)))
 
 -- one more design
 pub designs_more : (number : ℕ) (texts : List (List ℕ)) (files : List SourceFile) (text : List ℕ) (file : SourceFile) → AreDesigns number texts files

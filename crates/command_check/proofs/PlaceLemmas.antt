@@ -35,11 +35,15 @@ fault_refuses : FaultFromOne → (number : ℕ) (name text : List ℕ) (fault : 
     → DesignRefuses name (token_refusal name fault).status (token_refusal name fault).line
 fault_refuses from number name text (lex.BadByte place) is = at_place place (codes "BadByte") (from number text (lex.BadByte place) is) code.bad_byte
 fault_refuses from number name text (lex.BadNumber place) is = at_place place (codes "BadNumber") (from number text (lex.BadNumber place) is) code.bad_number
-fault_refuses from number name text (lex.NumberTooWide place) is = at_place place (codes "NumberTooWide") (from number text (lex.NumberTooWide place) is) code.number_too_wide
-fault_refuses from number name text (lex.OpenComment place) is = at_place place (codes "OpenComment") (from number text (lex.OpenComment place) is) code.open_comment
-fault_refuses from number name text (lex.OpenString place) is = at_place place (codes "OpenString") (from number text (lex.OpenString place) is) code.open_string
+fault_refuses from number name text (lex.NumberTooWide place) is = at_place place (codes "NumberTooWide") (from number text (lex.NumberTooWide place) is)
+    code.number_too_wide
+fault_refuses from number name text (lex.OpenComment place) is = at_place place (codes "OpenComment") (from number text (lex.OpenComment place) is)
+    code.open_comment
+fault_refuses from number name text (lex.OpenString place) is = at_place place (codes "OpenString") (from number text (lex.OpenString place) is)
+    code.open_string
 fault_refuses from number name text (lex.Directive place) is = at_place place (codes "Directive") (from number text (lex.Directive place) is) code.directive
-fault_refuses from number name text (lex.ReservedName place) is = at_place place (codes "ReservedName") (from number text (lex.ReservedName place) is) code.reserved_name
+fault_refuses from number name text (lex.ReservedName place) is = at_place place (codes "ReservedName") (from number text (lex.ReservedName place) is)
+    code.reserved_name
 fault_refuses from number name text (lex.Limit limit) is = past_limit limit (token_limit (latest (tokens_of number text 0 (is.pieces
     ++ is.piece ∷ []))) limit is.passed)
 fault_refuses from number name text lex.NoMemory is = absurd is
@@ -58,10 +62,12 @@ design_refuses from_fault from_tokens number name text a (grammar found place is
     (get_from found.tokens there.0 there.1 (from_tokens number text found is) there.2)) code.syntax
 
 named : (names before after : List (List ℕ)) (name : List ℕ) → names ≡ before ++ name ∷ after → Contains names name
-named names before after name split = subst (λ (ns : List (List ℕ)). Contains ns name) (sym split) (Contains-append_right before (name ∷ after) name (0, omega arith, refl))
+named names before after name split = subst (λ (ns : List (List ℕ)). Contains ns name) (sym split)
+    (Contains-append_right before (name ∷ after) name (0, omega arith, refl))
 
 -- files of which one is refused
 pub one_refuses : FaultFromOne → TokensFromOne → (names texts : List (List ℕ)) (a : Answer) → length names ≤ 4096 → RefusesOne names texts a
     → CheckRefuses names a.status a.line
 one_refuses from_fault from_tokens names texts a few is =
-    in_file is.name a.status a.line few (named names is.names_before is.names_after is.name is.names_split) (design_refuses from_fault from_tokens (length is.names_before) is.name is.text a is.refusal)
+    in_file is.name a.status a.line few (named names is.names_before is.names_after is.name is.names_split)
+    (design_refuses from_fault from_tokens (length is.names_before) is.name is.text a is.refusal)

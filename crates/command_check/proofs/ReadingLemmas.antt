@@ -32,4 +32,5 @@ long_stops told name text room before now e quiet front long is =
 pub short_stops : (told : Option Names) (name : List ℕ) (room : ℕ) (before now : FileFaults) (e : Ending) → Stops (taking name) told before now e
     → Stops (design_promise name room) told before now e
 short_stops told name room before now e is =
-    stops_weaker (taking name) (design_promise name room) told before now e (λ other same. same) (λ status line never. absurd never) (always_told told _ (λ held answer one. inl one)) is
+    stops_weaker (taking name) (design_promise name room) told before now e (λ other same. same) (λ status line never. absurd never)
+    (always_told told _ (λ held answer one. inl one)) is

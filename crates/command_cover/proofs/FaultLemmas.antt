@@ -19,7 +19,9 @@ fault_refuses name (fault.BadRecord n) other is = bad_line n (codes "BadRecord")
 fault_refuses name (fault.BadCount n) other is = bad_line n (codes "BadCount") is bad_count
 fault_refuses name (fault.LineTooLong n) other is = bad_line n (codes "LineTooLong") is line_too_long
 fault_refuses name fault.Failed other is = absurd (other refl)
-fault_refuses name (fault.Limit limit) other is = subst (λ (l : LimitName). FileRefuses name (refusal_of name (fault.Limit l)).status (refusal_of name (fault.Limit l)).line) (sym is) (past_limit DataBytes data_bytes)
+fault_refuses name (fault.Limit limit) other is = subst
+    (λ (l : LimitName). FileRefuses name (refusal_of name (fault.Limit l)).status (refusal_of name (fault.Limit l)).line) (sym is)
+    (past_limit DataBytes data_bytes)
 
 -- a refusal with the answer of a fault is one with that of the same fault
 pub refusal_fault : (name : List ℕ) (f found : DataFault) (e : Ending) → f ≡ found

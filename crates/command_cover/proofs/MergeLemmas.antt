@@ -90,14 +90,18 @@ merges_agree held merge a b (too_many many) (unread answer few is) = absurd (ome
 merges_agree held merge a b (too_many many) (all_merged records few is) = absurd (omega arith)
 merges_agree held merge a b (unread answer few is) (too_many many) = absurd (omega arith)
 merges_agree held merge a b (unread answer few is) (unread other fewer again) = outcomes_err answer other (reads_once _ (Err answer) (Err other) is again)
-merges_agree held merge a b (unread answer few is) (all_merged records fewer again) = absurd (outcomes_apart records answer (reads_once _ (Ok records) (Err answer) again is))
+merges_agree held merge a b (unread answer few is) (all_merged records fewer again) = absurd
+    (outcomes_apart records answer (reads_once _ (Ok records) (Err answer) again is))
 merges_agree held merge a b (all_merged records few is) (too_many many) = absurd (omega arith)
-merges_agree held merge a b (all_merged records few is) (unread other fewer again) = absurd (outcomes_apart records other (reads_once _ (Ok records) (Err other) is again))
-merges_agree held merge a b (all_merged records few is) (all_merged others fewer again) = ap (stored_at merge.out) (outcomes_ok records others (reads_once _ (Ok records) (Ok others) is again))
+merges_agree held merge a b (all_merged records few is) (unread other fewer again) = absurd
+    (outcomes_apart records other (reads_once _ (Ok records) (Err other) is again))
+merges_agree held merge a b (all_merged records few is) (all_merged others fewer again) = ap (stored_at merge.out)
+    (outcomes_ok records others (reads_once _ (Ok records) (Ok others) is again))
 
 -- where there is no reason to stop, the merged file is stored
 pub done_unless_wrong : (held : Names) (merge : Merging) (answer : Answer) → length merge.files ≤ most Files
     → IsReadOn (all_arrivals held keeps_all merge.files) → IsMergeAnswer held merge answer
     → answer ≡ stored_at merge.out (records_in (all_arrivals held keeps_all merge.files))
 done_unless_wrong held merge answer few on is =
-    merges_agree held merge answer (stored_at merge.out (records_in (all_arrivals held keeps_all merge.files))) is (all_merged (records_in (all_arrivals held keeps_all merge.files)) few (all_read on))
+    merges_agree held merge answer (stored_at merge.out (records_in (all_arrivals held keeps_all merge.files))) is
+    (all_merged (records_in (all_arrivals held keeps_all merge.files)) few (all_read on))

@@ -71,12 +71,14 @@ end_stops name (Some f) = fault_stops name f
 
 file_stops : (name : List ℕ) (o : Option (List ℕ)) → AreStops (file_arrivals keeps_all name o)
 file_stops name None = ((λ is. absurd (cc)), tt)
-file_stops name (Some text) = stops_append (map arrived (filter (λ (r : Record). keeps_all r.key) (reading text).records)) (end_of name (reading text).fault ∷ [])
+file_stops name (Some text) = stops_append (map arrived (filter (λ (r : Record). keeps_all r.key) (reading text).records))
+    (end_of name (reading text).fault ∷ [])
     (records_stop (filter (λ (r : Record). keeps_all r.key) (reading text).records)) (end_stops name (reading text).fault, tt)
 
 all_stop : (held : Names) (names : List (List ℕ)) → AreStops (all_arrivals held keeps_all names)
 all_stop held [] = tt
-all_stop held (name ∷ names) = stops_append (file_arrivals keeps_all name (held name)) (all_arrivals held keeps_all names) (file_stops name (held name)) (all_stop held names)
+all_stop held (name ∷ names) = stops_append (file_arrivals keeps_all name (held name)) (all_arrivals held keeps_all names) (file_stops name (held name))
+    (all_stop held names)
 
 limit_stops : (o : Option LimitName) (answer : Answer) → option_map over_limit o ≡ Some answer → answer.status ≡ Done → ⊥
 limit_stops None answer is over = absurd (cc)

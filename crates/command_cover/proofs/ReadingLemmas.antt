@@ -25,7 +25,8 @@ abbrev pub Outcome : Type 0
 Outcome = Result (List Record) Answer
 
 -- there is one first reason to stop
-stops_once : (arrivals before : List Arrival) (a : Arrival) (after : List Arrival) (x : Answer) (others : List Arrival) (b : Arrival) (rest : List Arrival) (y : Answer)
+stops_once : (arrivals before : List Arrival) (a : Arrival) (after : List Arrival) (x : Answer) (others : List Arrival) (b : Arrival) (rest : List Arrival)
+    (y : Answer)
     → arrivals ≡ before ++ a ∷ after → IsReadOn before → reason_at before a ≡ Some x → arrivals ≡ others ++ b ∷ rest → IsReadOn others
     → reason_at others b ≡ Some y → x ≡ y
 stops_once arrivals before a after x others b rest y split on reason split_too on_too reason_too =

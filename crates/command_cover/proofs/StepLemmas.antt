@@ -78,7 +78,8 @@ pub added_first : (told : Option Names) (counts more first : Counts) (name : Lis
     → IfSome told (λ held. continued counts (all_arrivals held keeps_all (name ∷ names)) ≡ continued first (all_arrivals held keeps_all all))
     → IfSome told (λ held. continued more (all_arrivals held keeps_all names) ≡ continued first (all_arrivals held keeps_all all))
 added_first told counts more first name names all one before =
-    if_told_both told _ _ _ (λ held is so. sym (continued-append-ok counts more (file_arrivals keeps_all name (held name)) (all_arrivals held keeps_all names) is) ∙ so) one before
+    if_told_both told _ _ _ (λ held is so. sym
+    (continued-append-ok counts more (file_arrivals keeps_all name (held name)) (all_arrivals held keeps_all names) is) ∙ so) one before
 
 -- files of which the first is refused are refused
 pub refused_first : (told : Option Names) (counts first : Counts) (name : List ℕ) (names all : List (List ℕ)) (before now : FileFaults) (e : Ending)

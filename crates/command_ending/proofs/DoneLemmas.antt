@@ -37,8 +37,10 @@ pub done_unless_wanting : (p : Promise) (said : List ℕ) (old new : World) (end
     → (ended ≡ Done) ⊎ (ended ≡ NoMemory)
 done_unless_wanting p said old new Done leaves calm all = inl refl
 done_unless_wanting p said old new BadWords leaves calm all = inl (answered p said old new BadWords all (leaves.answer (λ no. absurd (cc)) (λ no. absurd (cc))))
-done_unless_wanting p said old new BadDesign leaves calm all = inl (answered p said old new BadDesign all (leaves.answer (λ no. absurd (cc)) (λ no. absurd (cc))))
-done_unless_wanting p said old new BadStimulus leaves calm all = inl (answered p said old new BadStimulus all (leaves.answer (λ no. absurd (cc)) (λ no. absurd (cc))))
+done_unless_wanting p said old new BadDesign leaves calm all = inl
+    (answered p said old new BadDesign all (leaves.answer (λ no. absurd (cc)) (λ no. absurd (cc))))
+done_unless_wanting p said old new BadStimulus leaves calm all = inl
+    (answered p said old new BadStimulus all (leaves.answer (λ no. absurd (cc)) (λ no. absurd (cc))))
 done_unless_wanting p said old new BadData leaves calm all = inl (answered p said old new BadData all (leaves.answer (λ no. absurd (cc)) (λ no. absurd (cc))))
 done_unless_wanting p said old new Fault leaves calm all = absurd (no_fault p said old new calm all (leaves.fault refl))
 done_unless_wanting p said old new Limit leaves calm all = inl (answered p said old new Limit all (leaves.answer (λ no. absurd (cc)) (λ no. absurd (cc))))

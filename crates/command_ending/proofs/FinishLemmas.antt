@@ -17,7 +17,8 @@ pub finish_leaves : (p : Promise) (out : List ℕ) (stores : List (List ℕ × L
     → ((name : List ℕ) → Contains (map (λ (s : List ℕ × List ℕ). s.0) stores) name → p.Stores name)
     → IsFinish out stores old new e → Leaves p (line_at e) old new (status_at e)
 finish_leaves p out stores old new e is named (all_done unharmed puts made) = record {
-  answer = λ no_fault no_want. if_told old.held _ _ (λ names one. (done out stores, one, record { status = refl; stores = made; output = puts; line = refl })) is;
+  answer = λ no_fault no_want. if_told old.held _ _
+      (λ names one. (done out stores, one, record { status = refl; stores = made; output = puts; line = refl })) is;
   unharmed = λ other. unharmed;
   fault = λ never. absurd (cc);
   untouched = λ never. absurd (cc);
@@ -33,7 +34,8 @@ finish_leaves p out stores old new e is named (put_failed rose files held part) 
 finish_leaves p out stores old new e is named (store_failed name line there is_line rose puts whole part) = record {
   answer = λ other. absurd (other refl);
   unharmed = λ other. absurd (other refl);
-  fault = λ so. leaves.store_failed name (named name there) is_line rose puts (record { answer = if_told old.held _ _ (λ names one. (done out stores, one, whole, part)) is });
+  fault = λ so. leaves.store_failed name (named name there) is_line rose puts
+      (record { answer = if_told old.held _ _ (λ names one. (done out stores, one, whole, part)) is });
   untouched = λ never. absurd (cc);
   line = tt;
 }

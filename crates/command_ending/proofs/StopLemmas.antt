@@ -35,11 +35,14 @@ stops_before p true old new same = inl same
 stops_before p false old new same = same
 
 -- an answer that is a refusal, where nothing has changed
-left_refused : (p : Promise) (status : Status) (said : List ℕ) (told new : Option Names) (before now : FileFaults) (written : Option (List ℕ)) (put_faults : ℕ) → new ≡ told
+left_refused : (p : Promise) (status : Status) (said : List ℕ) (told new : Option Names) (before now : FileFaults) (written : Option (List ℕ))
+    (put_faults : ℕ) → new ≡ told
     → IfSome told (λ names. p.Answers names (refused_with status said))
-    → IfSome told (λ names. (answer : Answer) × p.Answers names answer × IsLeft answer said (world told before written put_faults) (world new now written put_faults) status)
+    → IfSome told (λ names. (answer : Answer) × p.Answers names answer × IsLeft answer said (world told before written put_faults)
+    (world new now written put_faults) status)
 left_refused p status said told new before now written put_faults same is =
-    if_told told _ _ (λ names one. (refused_with status said, one, record { status = refl; stores = stores_none told new same; output = puts_none written written refl; line = refl })) is
+    if_told told _ _ (λ names one.
+    (refused_with status said, one, record { status = refl; stores = stores_none told new same; output = puts_none written written refl; line = refl })) is
 
 -- what a command leaves that stops before it has put or stored anything
 pub stopping_leaves : (p : Promise) (told new : Option Names) (before now : FileFaults) (written : Option (List ℕ)) (put_faults : ℕ) (e : Ending) → new ≡ told

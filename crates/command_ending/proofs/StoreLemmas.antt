@@ -71,7 +71,8 @@ both_front stores i (Some o) (Some m) (Some n) within before part = front_of sto
 pub stored_front : (stores : List File) (i : ℕ) (name bytes : List ℕ) (old mid new : Option Names) → i < length stores → name ≡ (get_or stores i no_file).0
     → bytes ≡ (get_or stores i no_file).1
     → Both (StoresAll (take i stores)) old mid → Both (StoresPart name bytes) mid new → Both (StoresFront (get_or stores i no_file).0 stores) old new
-stored_front stores i name bytes old mid new within is_name is_bytes before part = both_front stores i old mid new within before (rw (sym is_name, sym is_bytes) part)
+stored_front stores i name bytes old mid new within is_name is_bytes before part = both_front stores i old mid new within before
+    (rw (sym is_name, sym is_bytes) part)
 
 -- the name of one of the stores
 pub name_of_store : (stores : List File) (i : ℕ) → i < length stores → Contains (map (λ (s : File). s.0) stores) (get_or stores i no_file).0

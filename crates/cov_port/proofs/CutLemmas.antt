@@ -49,7 +49,8 @@ no_feed-misses (b ∷ bs) miss = rw (misses (eqb b 10) (miss 0 (omega arith))) (
 pub no_feed-before : (bs : List ℕ) (at : ℕ) → at ≤ length bs → ((k : ℕ) → k < at → Misses 10 bs k) → has_no_feed (take at bs) ≡ true
 no_feed-before bs zero within miss = refl
 no_feed-before [] (suc at) within miss = refl
-no_feed-before (b ∷ bs) (suc at) within miss = rw (misses (eqb b 10) (miss 0 (omega arith))) (no_feed-before bs at (omega arith) (λ k below. miss (suc k) (omega arith)))
+no_feed-before (b ∷ bs) (suc at) within miss = rw (misses (eqb b 10) (miss 0 (omega arith)))
+    (no_feed-before bs at (omega arith) (λ k below. miss (suc k) (omega arith)))
 
 -- a byte at a place splits its text there
 pub split_at : (bs : List ℕ) (at byte : ℕ) → at < length bs → eqb (slice_index bs at) byte ≡ true → bs ≡ take at bs ++ byte ∷ drop (suc at) bs

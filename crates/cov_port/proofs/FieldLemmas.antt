@@ -116,7 +116,8 @@ passed_more bytes at high before above k l = ⊎_elim (λ low. before k low) (λ
 -- the same of two places, as far as the later one
 pub passed_either : (bytes : List ℕ) (at last high : ℕ) → ((k : ℕ) → k < at → is_mark (get_or bytes k 0) ≡ false)
     → ((k : ℕ) → last ≤ k → k < last + high → 10 < get_or bytes k 0) → last ≤ at → (k : ℕ) → k < max at (last + high) → is_mark (get_or bytes k 0) ≡ false
-passed_either bytes at last high before above le k l = ⊎_elim (λ low. before k low) (λ ge. high_is_plain _ (above k (omega arith) (omega arith))) (cases_lt k at)
+passed_either bytes at last high before above le k l = ⊎_elim (λ low. before k low) (λ ge. high_is_plain _ (above k (omega arith) (omega arith)))
+    (cases_lt k at)
 
 no_front_at : (bs : List ℕ) (n : ℕ) → (n < length bs → is_mark (get_or bs n 0) ≡ true) → position_or_len is_mark (drop n bs) ≡ 0
 no_front_at bs n mark = ⊎_elim

@@ -11,5 +11,7 @@ pub held_push : (files : List (List ℕ × List ℕ)) (name bytes q : List ℕ)
 held_push [] name bytes q = refl
 held_push (f ∷ fs) name bytes q =
     ap (λ (o : Option (List ℕ)). option_map_or (λ (t : List ℕ). Some t) o (if bytes_eq q f.0 then Some f.1 else None)) (held_push fs name bytes q)
-    ∙ elim (bytes_eq q name) as (λ (t : Bool). option_map_or (λ (x : List ℕ). Some x) (if t then Some bytes else held_in fs q) (if bytes_eq q f.0 then Some f.1 else None)
-    ≡ (if t then Some bytes else option_map_or (λ (x : List ℕ). Some x) (held_in fs q) (if bytes_eq q f.0 then Some f.1 else None))) [ true ↦ refl | false ↦ refl ]
+    ∙ elim (bytes_eq q name) as (λ (t : Bool). option_map_or (λ (x : List ℕ). Some x) (if t then Some bytes else held_in fs q)
+    (if bytes_eq q f.0 then Some f.1 else None)
+    ≡ (if t then Some bytes else option_map_or (λ (x : List ℕ). Some x) (held_in fs q) (if bytes_eq q f.0 then Some f.1 else None)))
+    [ true ↦ refl | false ↦ refl ]

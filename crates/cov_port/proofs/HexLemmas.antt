@@ -25,7 +25,14 @@ no_digit b is = no_digit_case (is_hex_digit b) (hex_digit_value b) is
 pub hex_more : (v b d : ℕ) (bs : List ℕ) → hex_digit_value b ≡ d → (16 * v + d) * 16 ^ length bs + hex_value bs ≡ v * 16 ^ length (b ∷ bs) + hex_value (b ∷ bs)
 hex_more v b d bs is =
     let place = 16 ^ length bs in
-    rw (← is) (omega (arith, add-mul (16 * v) (hex_digit_value b) place, mul_assoc 16 v place, ap (λ (k : ℕ). v * k) (pow-suc 16 (length bs)), mul_assoc v place 16))
+    rw (← is) (omega (
+      arith,
+      add-mul (16 * v) (hex_digit_value b) place,
+      mul_assoc 16 v place,
+      ap (λ (k : ℕ). v * k) (pow-suc 16 (length bs)),
+      mul_assoc v
+          place 16,
+    ))
 
 -- one more digit takes at most one more place
 pub hex_place_more : (v d i : ℕ) → v < 16 ^ i → d ≤ 15 → 16 * v + d < 16 ^ (i + 1)

@@ -34,7 +34,8 @@ record Tails (bs : List ℕ) : Type 0 where
   before_name : completes before_name bs ≡ true → FieldTail bs
 
 -- byte 1 before a field and further fields
-field_of : (bs : List ℕ) → FieldTail bs → (field : List ℕ × List ℕ) × (fields : List (List ℕ × List ℕ)) × IsField field × AllByRecursion IsField fields × (1 ∷ bs ≡ field_text field ++ flat_map field_text fields)
+field_of : (bs : List ℕ) → FieldTail bs → (field : List ℕ × List ℕ) × (fields : List (List ℕ × List ℕ)) × IsField field × AllByRecursion IsField fields ×
+    (1 ∷ bs ≡ field_text field ++ flat_map field_text fields)
 field_of bs t = let n = t.from in let v = n.tail in (
   (n.name, v.value),
   v.fields,

@@ -29,7 +29,17 @@ pub record SinkInMemory : Type 0 where
 
 -- no files, no call made or listed, and no room
 abbrev pub no_files : ℕ → FilesInMemory
-no_files piece = record { files = []; rest = []; faults = record { opens = 0; reads = 0; stores = 0 }; piece = piece; calls = 0; listed = []; stores_left = 0; bytes_left = 0 }
+no_files piece = record {
+  files = [];
+  rest = [];
+  faults = record { opens = 0; reads = 0; stores = 0 };
+  piece = piece;
+  calls = 0;
+  listed = [];
+  stores_left =
+      0;
+  bytes_left = 0;
+}
 
 -- nothing put, no call made or listed, and no room
 abbrev pub empty_sink : ℕ → SinkInMemory

@@ -94,7 +94,8 @@ abbrev BeginsIf : CommandName → List ℕ → Option Opening → Type 0
 BeginsIf c word begun = IfSome begun (λ (opening : Opening). Begins c word opening)
 
 alone-begins : (c : CommandName) (word : List ℕ) (o : OptionName) → option_named c word ≡ Some o → Begins c word (alone o)
-alone-begins c word o e = cond_both (is_flag o) (whole (given o [])) (waiting o) (λ (opening : Opening). Begins c word opening) (λ f. as_flag e f) (λ f. as_waiting e f)
+alone-begins c word o e = cond_both (is_flag o) (whole (given o [])) (waiting o) (λ (opening : Opening). Begins c word opening) (λ f. as_flag e f)
+    (λ f. as_waiting e f)
 
 together-begins : (c : CommandName) (word before value : List ℕ) → word ≡ before ++ 61 ∷ value → (found : Option OptionName) → option_named c before ≡ found
     → BeginsIf c word (option_and_then (together value) found)
@@ -159,7 +160,8 @@ sound_from c (Some o) (value ∷ words) = λ pieces e word n f.
     let s = behind-some (given o value) (cut c None words) pieces e in
     subst (λ (ps : List Piece). IsCut c (word ∷ value ∷ words) ps) s.2 (with_next n f (sound_from c None words s.0 s.1))
 sound_from c None (word ∷ words) = λ pieces.
-    cond_both (bytes_eq word (codes "--")) (Some (map name words)) (opened (cut c None words) (λ o. cut c (Some o) words) (opening c word)) (λ (o : Option (List Piece)). o ≡ Some pieces → IsCut c (word ∷ words) pieces)
+    cond_both (bytes_eq word (codes "--")) (Some (map name words)) (opened (cut c None words) (λ o. cut c (Some o) words) (opening c word))
+    (λ (o : Option (List Piece)). o ≡ Some pieces → IsCut c (word ∷ words) pieces)
     (λ d e. subst (λ (ps : List Piece). IsCut c (word ∷ words) ps) (same_Some _ _ e) (only_names (same_bytes word (codes "--") d)))
     (λ _ e. opened-means c word words (opening c word) (opening-begins c word) (sound_from c None words) (λ o. sound_from c (Some o) words) pieces e)
 
@@ -206,13 +208,15 @@ valued_opening c word before value o w e f =
 
 pub complete : (c : CommandName) (words : List (List ℕ)) (pieces : List Piece) → IsCut c words pieces → pieces_of c words ≡ Some pieces
 complete c _ _ no_more = refl
-complete c _ _ (a_name {word} {words} {pieces} d h) = opened-whole c word words (name word) pieces (dashes-dashed word d) (name_opening c word d) (complete c words pieces h)
+complete c _ _ (a_name {word} {words} {pieces} d h) = opened-whole c word words (name word) pieces (dashes-dashed word d) (name_opening c word d)
+    (complete c words pieces h)
 complete c _ _ (a_flag {word} {words} {pieces} {o} e f h) =
     opened-whole c word words (given o []) pieces (own-no_dashes c word o e) (own_opening c word o e ∙ (rw f refl)) (complete c words pieces h)
 complete c _ _ (with_next {word} {value} {words} {pieces} {o} e f h) =
     opened-waiting c word value words o pieces (own-no_dashes c word o e) (own_opening c word o e ∙ (rw f refl)) (complete c words pieces h)
 complete c _ _ (with_value {word} {value} {words} {pieces} {o} before w e f h) =
-    opened-whole c word words (given o value) pieces (no_dashes word (before, value) (valued_sign c word before value o w e)) (valued_opening c word before value o w e f) (complete c words pieces h)
+    opened-whole c word words (given o value) pieces (no_dashes word (before, value) (valued_sign c word before value o w e))
+    (valued_opening c word before value o w e f) (complete c words pieces h)
 complete c _ _ (only_names {word} {words} w) = rw (equal_bytes word (codes "--") w) refl
 
 pub one : (c : CommandName) (words : List (List ℕ)) (a b : List Piece) → IsCut c words a → IsCut c words b → a ≡ b

@@ -9,8 +9,10 @@ use Rattle.cov_words.specs.Values.{if_at_least, number_in}
 use Rattle.cov_words.specs.Table.{command_named, is_value_of, takes, word_of}
 use Rattle.cov_words.specs.Cut.{Piece, given, name}
 use Rattle.cov_words.specs.Pieces.{pieces_of}
-use Rattle.cov_words.specs.Command.{Building, Command, Covering, Simulating, build, cover, selftest, sim, build_with, selftest_with, sim_with, command_behind, command_of}
-use Rattle.cov_words.specs.Command.{command_of_pieces, command_with, first_of, fits, is_in_range, are_single, takes_names, lacks_annotate, names_of, number_of, value_in, value_of}
+use Rattle.cov_words.specs.Command.{Building, Command, Covering, Simulating, build, cover, selftest, sim, build_with, selftest_with, sim_with, command_behind}
+use Rattle.cov_words.specs.Command.{command_of}
+use Rattle.cov_words.specs.Command.{command_of_pieces, command_with, first_of, fits, is_in_range, are_single, takes_names, lacks_annotate, names_of, number_of}
+use Rattle.cov_words.specs.Command.{value_in, value_of}
 use Rattle.cov_words.specs.declared.table.CommandName.{CommandName}
 use Rattle.cov_words.specs.declared.table.CommandName.TheVariants.{Check, Build, Sim, Cover, SelfTest}
 use Rattle.cov_words.specs.declared.table.OptionName.{OptionName}
@@ -27,7 +29,8 @@ second false c is = absurd (cc)
 -- a text of a number from 1 to 64 spells no greater one in a wider range
 number_within : (decimal within wide : Bool) (v n : ℕ) → nat_le v 64 ≡ within → is_some (if_at_least 1 (cond (decimal && within) (Some v) None)) ≡ true
     → cond (decimal && wide) (Some v) None ≡ Some n → n ≤ 64
-number_within true true true v n le some found = let same : v ≡ n = (cc) in let low : nat_le n 64 ≡ true = subst (λ k. nat_le k 64 ≡ true) same le in grind (arith, nat_tests)
+number_within true true true v n le some found = let same : v ≡ n = (cc) in let low : nat_le n 64 ≡ true = subst (λ k. nat_le k 64 ≡ true) same le in
+    grind (arith, nat_tests)
 number_within true true false v n le some found = absurd (cc)
 number_within true false wide v n le some found = absurd (cc)
 number_within false within wide v n le some found = absurd (cc)

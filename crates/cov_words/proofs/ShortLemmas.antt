@@ -34,9 +34,11 @@ cut-short c None [] = omega arith
 cut-short c (Some o) [] = tt
 cut-short c (Some o) (value ∷ words) = behind-short (length words) (given o value) (cut c None words) (cut-short c None words)
 cut-short c None (word ∷ words) =
-    cond_both (bytes_eq word (codes "--")) (Some (map name words)) (opened (cut c None words) (λ o. cut c (Some o) words) (opening c word)) (IsShort (suc (length words)))
+    cond_both (bytes_eq word (codes "--")) (Some (map name words)) (opened (cut c None words) (λ o. cut c (Some o) words) (opening c word))
+    (IsShort (suc (length words)))
     (λ _. omega (arith, length-map words name))
-    (λ _. opened-short (length words) (cut c None words) (λ o. cut c (Some o) words) (opening c word) (cut-short c None words) (λ o. weaker (length words) (cut c (Some o) words) (cut-short c (Some o) words)))
+    (λ _. opened-short (length words) (cut c None words) (λ o. cut c (Some o) words) (opening c word) (cut-short c None words)
+    (λ o. weaker (length words) (cut c (Some o) words) (cut-short c (Some o) words)))
 
 short_or : (n : ℕ) (pieces : Option (List Piece)) → IsShort n pieces → length (unwrap_or pieces []) ≤ n
 short_or n None h = omega arith

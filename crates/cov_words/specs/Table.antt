@@ -53,7 +53,8 @@ row word options least most = record { word = word; options = options; least = l
 -- the table of commands
 abbrev pub row_of : CommandName → Row
 row_of Check = row (codes "check") [] 1 None
-row_of Build = row (codes "build") (Top ∷ Out ∷ Clock ∷ Coverage ∷ CoverageLine ∷ CoverageToggle ∷ CoverageUser ∷ CoverageUnderscore ∷ CoverageMaxWidth ∷ []) 1 None
+row_of Build = row (codes "build") (Top ∷ Out ∷ Clock ∷ Coverage ∷ CoverageLine ∷ CoverageToggle ∷ CoverageUser ∷ CoverageUnderscore ∷ CoverageMaxWidth ∷ [])
+    1 None
 row_of Sim = row (codes "sim") (CountBits ∷ Data ∷ []) 2 (Some 2)
 row_of Cover = row (codes "cover") (Write ∷ WriteInfo ∷ Rank ∷ Annotate ∷ AnnotateAll ∷ AnnotatePoints ∷ AnnotateMin ∷ FilterType ∷ []) 1 None
 row_of SelfTest = row (codes "selftest") [] 1 (Some 1)

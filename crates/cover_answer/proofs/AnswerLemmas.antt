@@ -40,7 +40,8 @@ same_reports : OneRanking → (held : Names) (asked : Covering) (rows others : L
     → RanksIf asked.rank (covers_in (arrivals_for held asked)) rows → RanksIf asked.rank (covers_in (arrivals_for held asked)) others
     → reported_with held asked rows ≡ reported_with held asked others
 same_reports law held asked rows others one two =
-    ap (λ (table : List ℕ). done (table ++ cond (prints_total asked) (total_text (minimum_of asked) (counts_in (arrivals_for held asked))) []) (cover_stores held asked (counts_in (arrivals_for held asked))))
+    ap (λ (table : List ℕ). done (table ++ cond (prints_total asked) (total_text (minimum_of asked) (counts_in (arrivals_for held asked))) [])
+    (cover_stores held asked (counts_in (arrivals_for held asked))))
     (same_table law asked.rank (covers_in (arrivals_for held asked)) asked.files rows others one two)
 
 pub covers_agree : OneRanking → OneCover
@@ -54,17 +55,21 @@ covers_agree law held asked a b (unread answer few g) (unreported other fewer h 
 covers_agree law held asked a b (unread answer few g) (reported rows fewer h is ranks) = absurd (stops_apart answer (gathers_once _ _ None (Some answer) h g))
 covers_agree law held asked a b (unreported answer few g is) (too_many many) = absurd (omega arith)
 covers_agree law held asked a b (unreported answer few g is) (unread other fewer h) = absurd (stops_apart other (gathers_once _ _ None (Some other) g h))
-covers_agree law held asked a b (unreported answer few g is) (unreported other fewer h also) = some_same (report_refusal held asked (counts_in (arrivals_for held asked))) answer other is also
-covers_agree law held asked a b (unreported answer few g is) (reported rows fewer h none ranks) = absurd (none_some (report_refusal held asked (counts_in (arrivals_for held asked))) answer none is)
+covers_agree law held asked a b (unreported answer few g is) (unreported other fewer h also) = some_same
+    (report_refusal held asked (counts_in (arrivals_for held asked))) answer other is also
+covers_agree law held asked a b (unreported answer few g is) (reported rows fewer h none ranks) = absurd
+    (none_some (report_refusal held asked (counts_in (arrivals_for held asked))) answer none is)
 covers_agree law held asked a b (reported rows few g none ranks) (too_many many) = absurd (omega arith)
 covers_agree law held asked a b (reported rows few g none ranks) (unread other fewer h) = absurd (stops_apart other (gathers_once _ _ None (Some other) g h))
-covers_agree law held asked a b (reported rows few g none ranks) (unreported other fewer h is) = absurd (none_some (report_refusal held asked (counts_in (arrivals_for held asked))) other none is)
+covers_agree law held asked a b (reported rows few g none ranks) (unreported other fewer h is) = absurd
+    (none_some (report_refusal held asked (counts_in (arrivals_for held asked))) other none is)
 covers_agree law held asked a b (reported rows few g none ranks) (reported others fewer h again also) = same_reports law held asked rows others ranks also
 
 pub done_unless_wrong : IsDoneUnlessWrong
 done_unless_wrong held asked answer few on none (too_many many) = absurd (omega arith)
 done_unless_wrong held asked answer few on none (unread other fewer h) = absurd (stops_apart other (gathers_once _ _ None (Some other) (all_gathered on) h))
-done_unless_wrong held asked answer few on none (unreported other fewer h is) = absurd (none_some (report_refusal held asked (counts_in (arrivals_for held asked))) other none is)
+done_unless_wrong held asked answer few on none (unreported other fewer h is) = absurd
+    (none_some (report_refusal held asked (counts_in (arrivals_for held asked))) other none is)
 done_unless_wrong held asked answer few on none (reported rows fewer h again ranks) = (rows, refl, ranks)
 
 -- ---- a `cover` that only stores the merged file
@@ -81,7 +86,8 @@ from_merge : (held : Names) (out : List ℕ) (files : List (List ℕ)) (a : Answ
 from_merge held out files a (merge.too_many many) = too_many many
 from_merge held out files a (merge.unread answer few r) = unread answer few (as_gathering _ (Err answer) r)
 from_merge held out files a (merge.all_merged records few r) =
-    subst (λ (rs : List Record). IsCoverAnswer held (writing out files) (stored_at out rs)) (read_whole (all_arrivals held keeps_all files) records (Ok records) r refl)
+    subst (λ (rs : List Record). IsCoverAnswer held (writing out files) (stored_at out rs))
+    (read_whole (all_arrivals held keeps_all files) records (Ok records) r refl)
     (reported [] few (as_gathering _ (Ok records) r) refl tt)
 
 pub merges : WritingMerges

@@ -21,7 +21,8 @@ read_stops : (ranks : Bool) (arrivals before : List Arrival) (a : Arrival) (afte
 read_stops ranks arrivals before a after answer on split reason = none_some (stops_for ranks before a) answer (on before a after split) reason
 
 -- there is one first reason to stop
-stops_once : (ranks : Bool) (arrivals before : List Arrival) (a : Arrival) (after : List Arrival) (x : Answer) (others : List Arrival) (b : Arrival) (rest : List Arrival) (y : Answer)
+stops_once : (ranks : Bool) (arrivals before : List Arrival) (a : Arrival) (after : List Arrival) (x : Answer) (others : List Arrival) (b : Arrival)
+    (rest : List Arrival) (y : Answer)
     → arrivals ≡ before ++ a ∷ after → IsGathered ranks before → stops_for ranks before a ≡ Some x
     → arrivals ≡ others ++ b ∷ rest → IsGathered ranks others → stops_for ranks others b ≡ Some y → x ≡ y
 stops_once ranks arrivals before a after x others b rest y split on reason split_too on_too reason_too =
@@ -35,8 +36,10 @@ stops_once ranks arrivals before a after x others b rest y split on reason split
 -- reading comes to one thing
 pub gathers_once : (ranks : Bool) (arrivals : List Arrival) (r s : Option Answer) → Gathers ranks arrivals r → Gathers ranks arrivals s → r ≡ s
 gathers_once ranks arrivals r s (all_gathered on) (all_gathered again) = refl
-gathers_once ranks arrivals r s (all_gathered on) (stops_at before a after x split was reason) = absurd (read_stops ranks arrivals before a after x on split reason)
-gathers_once ranks arrivals r s (stops_at before a after x split was reason) (all_gathered on) = absurd (read_stops ranks arrivals before a after x on split reason)
+gathers_once ranks arrivals r s (all_gathered on) (stops_at before a after x split was reason) = absurd
+    (read_stops ranks arrivals before a after x on split reason)
+gathers_once ranks arrivals r s (stops_at before a after x split was reason) (all_gathered on) = absurd
+    (read_stops ranks arrivals before a after x on split reason)
 gathers_once ranks arrivals r s (stops_at before a after x split was reason) (stops_at others b rest y split_too was_too reason_too) =
     ap {B = Option Answer} Some (stops_once ranks arrivals before a after x others b rest y split was reason split_too was_too reason_too)
 
@@ -105,11 +108,13 @@ stop_of (Err answer) = Some answer
 
 pub as_reading : (arrivals : List Arrival) (r : Option Answer) → Gathers false arrivals r → IsReading arrivals (read_of arrivals r)
 as_reading arrivals r (all_gathered on) = cover.all_read (read_on arrivals on)
-as_reading arrivals r (stops_at before a after answer split on reason) = cover.stops_at before a after answer split (read_on before on) (sym (same_reason before a) ∙ reason)
+as_reading arrivals r (stops_at before a after answer split on reason) = cover.stops_at before a after answer split (read_on before on)
+    (sym (same_reason before a) ∙ reason)
 
 pub as_gathering : (arrivals : List Arrival) (r : Result (List Record) Answer) → IsReading arrivals r → Gathers false arrivals (stop_of r)
 as_gathering arrivals r (cover.all_read on) = all_gathered (gathered_on arrivals on)
-as_gathering arrivals r (cover.stops_at before a after answer split on reason) = stops_at before a after answer split (gathered_on before on) (same_reason before a ∙ reason)
+as_gathering arrivals r (cover.stops_at before a after answer split on reason) = stops_at before a after answer split (gathered_on before on)
+    (same_reason before a ∙ reason)
 
 ok_same : (a b : List Record) (r : Result (List Record) Answer) → r ≡ Ok a → r ≡ Ok b → a ≡ b
 ok_same a b r one two = cc

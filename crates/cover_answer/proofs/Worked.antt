@@ -34,7 +34,8 @@ data_of ls = text_of (codes "# SystemC::Coverage-3" ∷ ls)
 -- entries that ascend are those of their map
 entries-sorted : (es : Counts) → is_sorted (slice_cmp nat_cmp) es ≡ true → entries (count_map es) ≡ es
 entries-sorted es sorted =
-    same_entries (slice_cmp nat_cmp) nat_list_cmp_total (slice_cmp-IsAntisymmetric nat_cmp-IsAntisymmetric) (entries (count_map es)) es (entries_sorted (count_map es)) (subst T (sym sorted) tt)
+    same_entries (slice_cmp nat_cmp) nat_list_cmp_total (slice_cmp-IsAntisymmetric nat_cmp-IsAntisymmetric) (entries (count_map es)) es
+    (entries_sorted (count_map es)) (subst T (sym sorted) tt)
     (λ q. sym (get-entries (count_map es) q) ∙ get-from_entries nat_list_cmp_total es q)
 
 -- a `cover` of these files that asks for nothing
@@ -115,7 +116,8 @@ asks_annotation = record (plain (codes "x.dat" ∷ [])) { annotate = Some (codes
 
 abbrev two_low : Names
 two_low name =
-    if bytes_eq name (codes "x.dat") then Some (data_of (record_line (low_in (codes "a/s.v")) (codes "0") ∷ record_line (low_in (codes "b/s.v")) (codes "0") ∷ [])) else None
+    if bytes_eq name (codes "x.dat") then Some
+    (data_of (record_line (low_in (codes "a/s.v")) (codes "0") ∷ record_line (low_in (codes "b/s.v")) (codes "0") ∷ [])) else None
 
 same_base : IsCoverAnswer two_low asks_annotation (bad_file (codes "SameBaseName") (codes "b/s.v"))
 unfolding is_utf8 chars lib.Utf8.encode
@@ -185,7 +187,8 @@ asks_merge = record (plain (codes "a.dat" ∷ codes "b.dat" ∷ [])) { write = S
 
 saturates : IsCoverAnswer two_files asks_merge (done [] ((codes "o.dat", data_of (record_line quoted (codes "18446744073709551615") ∷ [])) ∷ []))
 unfolding digits
-saturates = subst (λ c. IsCoverAnswer two_files asks_merge (done [] ((codes "o.dat", lines_text c) ∷ []))) (entries-sorted ((quoted, 18446744073709551615) ∷ []) refl)
+saturates = subst (λ c. IsCoverAnswer two_files asks_merge (done [] ((codes "o.dat", lines_text c) ∷ [])))
+    (entries-sorted ((quoted, 18446744073709551615) ∷ []) refl)
     (reported [] (omega arith) (gathers false (arrivals_for two_files asks_merge)) refl tt)
 
 -- empty lines and notes are skipped; a key without type is kept by its page, and one of another type isn't
@@ -211,9 +214,11 @@ point name = key_of ((codes "o", name) ∷ [])
 -- three tests: the first covers the points 0, 1 and 2, the second 2 and 3, and the third 0 and 1, one of them by its second record
 abbrev three : Names
 three name =
-    if bytes_eq name (codes "a.dat") then Some (data_of (record_line (point (codes "p")) (codes "1") ∷ record_line (point (codes "q")) (codes "2") ∷ record_line (point (codes "r")) (codes "3") ∷ []))
+    if bytes_eq name (codes "a.dat") then Some
+    (data_of (record_line (point (codes "p")) (codes "1") ∷ record_line (point (codes "q")) (codes "2") ∷ record_line (point (codes "r")) (codes "3") ∷ []))
     else if bytes_eq name (codes "b.dat") then Some (data_of (record_line (point (codes "s")) (codes "1") ∷ record_line (point (codes "r")) (codes "1") ∷ []))
-    else Some (data_of (record_line (point (codes "q")) (codes "0") ∷ record_line (point (codes "p")) (codes "1") ∷ record_line (point (codes "q")) (codes "1") ∷ record_line (point (codes "s")) (codes "0") ∷ []))
+    else Some (data_of (record_line (point (codes "q")) (codes "0") ∷ record_line (point (codes "p")) (codes "1") ∷ record_line (point (codes "q"))
+    (codes "1") ∷ record_line (point (codes "s")) (codes "0") ∷ []))
 
 abbrev asks_ranks : Covering
 asks_ranks = record (plain (codes "a.dat" ∷ codes "b.dat" ∷ codes "c.dat" ∷ [])) { rank = true }

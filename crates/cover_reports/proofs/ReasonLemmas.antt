@@ -25,7 +25,8 @@ said (Some flaw) = answer_to flaw
 said_first : (k : Option (List ℕ)) (l : Bool) (b s : Option (List ℕ))
     → first_reason (option_map (bad_file (codes "BadKeyLine")) k ∷ reason_if l (over_limit LineEntries) ∷ option_map (bad_file (codes "BadFileName")) b
     ∷ option_map (bad_file (codes "SameBaseName")) s ∷ [])
-    ≡ said (or_then (or_then (option_map fault.BadKeyLine k) (cond l (Some (fault.Limit LineEntries)) None)) (or_then (option_map fault.BadFileName b) (option_map fault.SameBaseName s)))
+    ≡ said (or_then (or_then (option_map fault.BadKeyLine k) (cond l (Some (fault.Limit LineEntries)) None))
+    (or_then (option_map fault.BadFileName b) (option_map fault.SameBaseName s)))
 said_first (Some file) l b s = refl
 said_first None true b s = refl
 said_first None false (Some file) s = refl
@@ -44,10 +45,12 @@ said_plain None false = refl
 pub counts_said : (options : ReportOptions) (counts : Counts)
     → first_reason (count_reasons counts (cond options.annotate (annotated_files options.all options.min counts) [])) ≡ said (prepare_fault options counts)
 counts_said options counts = elim options.annotate as (λ b. first_reason (count_reasons counts (cond b (annotated_files options.all options.min counts) []))
-    ≡ said (or_then (or_then (option_map fault.BadKeyLine (bad_key_line counts)) (cond (nat_lt (most LineEntries) (line_entries counts)) (Some (fault.Limit LineEntries)) None))
+    ≡ said (or_then (or_then (option_map fault.BadKeyLine (bad_key_line counts))
+    (cond (nat_lt (most LineEntries) (line_entries counts)) (Some (fault.Limit LineEntries)) None))
     (cond b (or_then (option_map fault.BadFileName (bad_file_name (annotated_files options.all options.min counts)))
     (option_map fault.SameBaseName (same_base_name (annotated_files options.all options.min counts)))) None))) [
-      | true ↦ said_first (bad_key_line counts) (nat_lt (most LineEntries) (line_entries counts)) (bad_file_name (annotated_files options.all options.min counts))
+      | true ↦ said_first (bad_key_line counts) (nat_lt (most LineEntries) (line_entries counts))
+          (bad_file_name (annotated_files options.all options.min counts))
           (same_base_name (annotated_files options.all options.min counts))
       | false ↦ said_plain (bad_key_line counts) (nat_lt (most LineEntries) (line_entries counts))
     ]

@@ -46,7 +46,8 @@ digit_clear base b h = grind (arith, nat_tests)
 digits_clear : (base : ℕ) (bs : List ℕ) → list_all (is_digit base) bs ≡ true → none_passes separates bs ≡ true
 digits_clear base [] h = refl
 digits_clear base (x ∷ bs) h =
-    both_true (clear x) (none_passes separates bs) (digit_clear base x (first_true (is_digit base x) _ h)) (digits_clear base bs (second_true (is_digit base x) _ h))
+    both_true (clear x) (none_passes separates bs) (digit_clear base x (first_true (is_digit base x) _ h))
+    (digits_clear base bs (second_true (is_digit base x) _ h))
 
 pub number_clean : (n : ℕ) → is_clean (number n) ≡ true
 number_clean n = digits_clear 10 (decimal_text n) (numeral_digits 10 (decimal_text n) (numeral_is 10 n (omega arith) (omega arith)))
@@ -67,7 +68,8 @@ byte_clean n = by (nat_lt n 256) refl
     by true h =
         let lt = small_byte n h in
         ap (λ s. none_passes separates (if s then digit (n / 16) ∷ digit (n % 16) ∷ [] else n ∷ [])) h
-        ∙ both_true (clear (digit (n / 16))) (clear (digit (n % 16)) && true) (digit_clear 16 (digit (n / 16)) (shown_digit 16 (n / 16) (omega arith) (omega arith)))
+        ∙ both_true (clear (digit (n / 16))) (clear (digit (n % 16)) && true)
+        (digit_clear 16 (digit (n / 16)) (shown_digit 16 (n / 16) (omega arith) (omega arith)))
         (both_true (clear (digit (n % 16))) true (digit_clear 16 (digit (n % 16)) (shown_digit 16 (n % 16) (omega arith) (omega arith))) refl)
     by false h =
         ap (λ s. none_passes separates (if s then digit (n / 16) ∷ digit (n % 16) ∷ [] else n ∷ [])) h ∙ both_true (clear n) true (high_clear n h) refl
@@ -79,7 +81,8 @@ bytes_clean (n ∷ bytes) = all_join clear (byte_text n) (flat_map byte_text byt
 joined_clean : (n : ℕ) (ns : List ℕ) → none_passes separates (separated (codes ",") (map decimal_text (n ∷ ns))) ≡ true
 joined_clean n [] = number_clean n
 joined_clean n (m ∷ ns) =
-    all_join clear (decimal_text n ++ codes ",") (separated (codes ",") (map decimal_text (m ∷ ns))) (all_join clear (decimal_text n) (codes ",") (number_clean n) refl)
+    all_join clear (decimal_text n ++ codes ",") (separated (codes ",") (map decimal_text (m ∷ ns)))
+    (all_join clear (decimal_text n) (codes ",") (number_clean n) refl)
     (joined_clean m ns)
 
 pub counters_clean : (ns : List ℕ) → is_clean (counters ns) ≡ true
@@ -133,7 +136,8 @@ abbrev TK : Type 0
 TK = List Token
 
 place_clean : (at : Index) (ts : List Token) → all_clean ts ≡ true → all_clean (number at.low ∷ word (sign_word at.signed) ∷ ts) ≡ true
-place_clean at ts p = onto (number at.low) (is_clean (word (sign_word at.signed)) && all_clean ts) (number_clean at.low) (onto (word (sign_word at.signed)) (all_clean ts) (sign_clean at.signed) p)
+place_clean at ts p = onto (number at.low) (is_clean (word (sign_word at.signed)) && all_clean ts) (number_clean at.low)
+    (onto (word (sign_word at.signed)) (all_clean ts) (sign_clean at.signed) p)
 
 pub typed_clean : (x : Typed) → Clean x
 typed_clean = typed_induction Clean

@@ -336,13 +336,15 @@ module _ (FlowFault : Type 0) (IsFlowFault : Design → FlowFault → Type 0) wh
     pair f g (goes_on x b more h e) (wrong_piece given2 p2 m2 h2 w2 e2) = absurd (whole_and_wrong x (front_more x b more h e) given2 p2 m2 w2)
     pair f g (goes_on x b more h e) (cut_off m2 h2 w2) = absurd (whole_and_end x (front_more x b more h e) m2 w2)
     pair f g (goes_on x b more h e) (goes_on x2 b2 more2 h2 e2) = two_trailing x x2 (two_whole x x2 (front_more x b more h e) (front_more x2 b2 more2 h2 e2))
-    pair f g (goes_on x b more h e) (breaks_flow x2 fault2 c2 h2) = absurd (longer x x2 b more (two_whole x x2 (front_more x b more h e) (front_cvd x2 c2)) e c2.spelled)
+    pair f g (goes_on x b more h e) (breaks_flow x2 fault2 c2 h2) = absurd
+        (longer x x2 b more (two_whole x x2 (front_more x b more h e) (front_cvd x2 c2)) e c2.spelled)
     pair f g (breaks_flow x fault c h) (other_text a2) = absurd (clash (has_name text) (name_first (first_cvd x c)) a2)
     pair f g (breaks_flow x fault c h) (no_line a2 n2) = absurd (whole_some x (front_cvd x c) n2)
     pair f g (breaks_flow x fault c h) (other_version p2 qs2 a2 n2 o2) = absurd (clash (has_first_line text) (first_cvd x c) o2)
     pair f g (breaks_flow x fault c h) (wrong_piece given2 p2 m2 h2 w2 e2) = absurd (whole_and_wrong x (front_cvd x c) given2 p2 m2 w2)
     pair f g (breaks_flow x fault c h) (cut_off m2 h2 w2) = absurd (whole_and_end x (front_cvd x c) m2 w2)
-    pair f g (breaks_flow x fault c h) (goes_on x2 b2 more2 h2 e2) = absurd (longer x2 x b2 more2 (two_whole x2 x (front_more x2 b2 more2 h2 e2) (front_cvd x c)) e2 c.spelled)
+    pair f g (breaks_flow x fault c h) (goes_on x2 b2 more2 h2 e2) = absurd
+        (longer x2 x b2 more2 (two_whole x2 x (front_more x2 b2 more2 h2 e2) (front_cvd x c)) e2 c.spelled)
     pair f g (breaks_flow x fault c h) (breaks_flow x2 fault2 c2 h2) = two_invalid x x2 fault fault2 (two_whole x x2 (front_cvd x c) (front_cvd x2 c2)) h h2
 
   -- a text has one fault

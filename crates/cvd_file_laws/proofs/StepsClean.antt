@@ -56,7 +56,8 @@ module _ (around : Around) where
   arm_clean : (width deep : ℕ) (arm : StepArm) → ArmHas IsClean arm → lines_clean (arm_lines_at around width deep arm) ≡ true
   arm_clean width deep arm each =
       ap (λ (f : ArmText). lines_clean (f width deep)) (fold_out-StepArm StepText ArmText (step_lines around) (arm_lines around) arm)
-      ∙ both_true (is_clean (number (length arm.items)) && true) _ (both_true (is_clean (number (length arm.items))) true (number_clean (length arm.items)) refl)
+      ∙ both_true (is_clean (number (length arm.items)) && true) _
+      (both_true (is_clean (number (length arm.items))) true (number_clean (length arm.items)) refl)
       (clean_join (map (item_line around width) arm.items) (block_lines_at around (deep + 1) arm.body) (items_clean width arm.items)
       (block_clean (deep + 1) arm.body each))
 
@@ -85,7 +86,8 @@ module _ (around : Around) where
       (block_clean (at.deep + 1) right q)))
       (λ on arms rest p q at. ap (at_spot at) (fold-Case StepText ArmText (step_lines around) (arm_lines around) on arms rest)
       ∙ both_true (is_clean (number (length (map (lines_of_arm around) arms))) && all_clean (tokens_of on)) _
-      (both_true (is_clean (number (length (map (lines_of_arm around) arms)))) (all_clean (tokens_of on)) (number_clean (length (map (lines_of_arm around) arms)))
+      (both_true (is_clean (number (length (map (lines_of_arm around) arms)))) (all_clean (tokens_of on))
+      (number_clean (length (map (lines_of_arm around) arms)))
       (typed_clean on))
       (clean_join (flat_map (λ (arm : ArmText). arm (width_of around.design on) at.deep) (map (lines_of_arm around) arms))
       (block_lines_at around (at.deep + 1) rest) (arms_clean (width_of around.design on) at.deep arms p) (block_clean (at.deep + 1) rest q)))

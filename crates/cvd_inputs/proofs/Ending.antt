@@ -106,7 +106,8 @@ ascends_more [] v a h = refl
 ascends_more (x ∷ xs) v a h =
     both_true (list_all (λ m. nat_lt x m) (xs ++ v ∷ [])) _
     (all_of_joined (λ m. nat_lt x m) xs (v ∷ [])
-    ∙ both_true (list_all (λ m. nat_lt x m) xs) _ (first_true (list_all (λ m. nat_lt x m) xs) _ a) (both_true (nat_lt x v) true (first_true (nat_lt x v) _ h) refl))
+    ∙ both_true (list_all (λ m. nat_lt x m) xs) _ (first_true (list_all (λ m. nat_lt x m) xs) _ a)
+    (both_true (nat_lt x v) true (first_true (nat_lt x v) _ h) refl))
     (ascends_more xs v (second_true (list_all (λ m. nat_lt x m) xs) _ a) (second_true (nat_lt x v) _ h))
 
 among_more : (ns xs : List ℕ) (v : ℕ) → list_all (is_among ns) xs ≡ true → is_among ns v ≡ true → list_all (is_among ns) (xs ++ v ∷ []) ≡ true

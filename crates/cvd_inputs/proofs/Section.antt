@@ -56,7 +56,8 @@ refused_name =
 
 pub apart_input : Apart fits (marks input_tokens)
 apart_input =
-    tokens.apart_parts ℕ (List ℕ) Input number_tokens (λ w. word w ∷ []) input_tokens input_by input_parts (λ i. refl) (λ i. refl) (λ p. refl) apart_number apart_word
+    tokens.apart_parts ℕ (List ℕ) Input number_tokens (λ w. word w ∷ []) input_tokens input_by input_parts (λ i. refl) (λ i. refl) (λ p. refl) apart_number
+    apart_word
 
 module _ (vars : List Var) where
   abbrev pub each : ℕ → List Input → Input → Line

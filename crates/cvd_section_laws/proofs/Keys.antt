@@ -72,5 +72,6 @@ module _ (flag : List ℕ → Bool) where
   pub apart_key : Apart fits key_marks
   apart_key key =
       single.apart_via fits Words (List ℕ) key_of split_key key_back (ended_marks word_marks word_more ends []) key_marks alike key
-      (apart_ended fits (List ℕ) Words word_marks word_more ends (λ ws. line_end (flag (key_of ws))) (λ ws. []) (λ ws. refl) (λ ws w. token (word w)) (λ ws w. [])
+      (apart_ended fits (List ℕ) Words word_marks word_more ends (λ ws. line_end (flag (key_of ws))) (λ ws. []) (λ ws. refl) (λ ws w. token (word w))
+      (λ ws w. [])
       (λ ws w. refl) (λ ws w p e. told p (flag (key_of ws)) w e) [] (split_key key) (all_words (split_key key)))

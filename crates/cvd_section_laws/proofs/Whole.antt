@@ -161,7 +161,8 @@ outputs_apart vars n load =
 
 pub inputs_apart : (vars : List Var) (counters : ℕ) (load : Load) → Apart fits (inputs_on vars counters load)
 inputs_apart vars n load =
-    apart_then (λ inputs. input_lines (with_inputs vars inputs)) (λ inputs. outputs_on vars n) load (apart_inputs load vars) (λ inputs l. outputs_apart vars n l)
+    apart_then (λ inputs. input_lines (with_inputs vars inputs)) (λ inputs. outputs_on vars n) load (apart_inputs load vars)
+    (λ inputs l. outputs_apart vars n l)
 
 pub variables_apart : (counters : ℕ) (load : Load) → Apart fits (variables_on counters load)
 variables_apart n load = apart_then var_lines (λ vars. inputs_on vars n) load (apart_vars load) (λ vars l. inputs_apart vars n l)
@@ -174,4 +175,5 @@ counters_apart p =
 pub apart_design : Apart fits design_marks
 apart_design x =
     single.apart_via fits Whole Instrumented made_design parts_of_design design_there whole_marks design_marks design_alike x
-    (after.apart_pair fits (Unit {0}) (λ u. Counters) first_marks (λ u. counters_on) tt (parts_of_design x).1 (λ v h. refl) (counters_apart (parts_of_design x).1))
+    (after.apart_pair fits (Unit {0}) (λ u. Counters) first_marks (λ u. counters_on) tt (parts_of_design x).1 (λ v h. refl)
+    (counters_apart (parts_of_design x).1))

@@ -69,7 +69,8 @@ module _ (A S : Type 0) (spelled : S → A → List Mark) (next : S → A → S)
         (g : Goes old now held s ys) → length ys < g.n → Refused (spelled (s g.n)) now fault new → Refused section old fault new
     one_refused apart old now new held s ys fault g less r =
         refused_alike plain section alike old new fault
-        (lists.stops A S spelled next start head (apart_line (heading_tokens name) ok (apart_heading name)) some apart old now new g.n (s g.n) ys fault less r g.going)
+        (lists.stops A S spelled next start head (apart_line (heading_tokens name) ok (apart_heading name)) some apart old now new g.n (s g.n) ys fault less
+        r g.going)
 
     pub ends : (old now : Reading) (held : Option ℕ) (s : ℕ → S) (ys : List A) (g : Goes old now held s ys) → g.n ≤ length ys → Takes section old now ys
     ends old now held s ys g most =

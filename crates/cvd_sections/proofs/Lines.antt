@@ -68,7 +68,13 @@ module _ {A : Type 0} (toks : A → List Token) (holds : A → Bool) where
   pub closes : {V : Type 0} (Holds : A → V → Type 0) → Apart fits (marks toks)
       → (old mid new : Reading) (a : A) (found : Option V) (result : Result V ReadFault)
       → Takes (marks toks) old mid a → Judges holds Holds a found → Closes found mid result new → Reads ended Holds old result new
-  closes Holds apart old mid new a found (Ok held) h j k =
-      (a, (takes_line old mid new a h (subst (λ s. Takes (line_marks s) mid new tt) (some_judged Holds a found j) k.1.0), held_judged Holds a found held k.1.1 j))
+  closes Holds apart old mid new a found (Ok held) h j k = (
+    a,
+    (
+      takes_line old mid new a h (subst (λ s. Takes (line_marks s) mid new tt) (some_judged Holds a found j) k.1.0),
+      held_judged Holds a found held
+          k.1.1 j,
+    ),
+  )
   closes Holds apart old mid new a found (Err fault) h j k =
       refused_end apart old mid new a fault h (subst (λ s. Refused (line_marks s) mid fault new) (some_judged Holds a found j) k)

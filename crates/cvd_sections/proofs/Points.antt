@@ -106,7 +106,8 @@ module _ (counters : ℕ) where
   pub point_stood : (before : List PointRow) (r : PointRow) (old new : Reading) → Takes (row each (0, before)) old new r
       → list_all (λ (q : PointRow). is_below q.key r.key) before ≡ true
   point_stood before r old new h =
-      second_true _ _ (end_stands (token (Tokens.counters r.plus) ∷ token (Tokens.counters r.minus) ∷ map token (words_of r.key)) (each 0 before r).holds h.read.given h.read.fit)
+      second_true _ _ (end_stands (token (Tokens.counters r.plus) ∷ token (Tokens.counters r.minus) ∷ map token (words_of r.key)) (each 0 before r).holds
+      h.read.given h.read.fit)
 
 last_there : (ps : List PointRow) (r : PointRow) → slice_get (ps ++ r ∷ []) (length ps) ≡ Some r
 last_there [] r = refl

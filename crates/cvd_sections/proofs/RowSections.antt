@@ -55,7 +55,8 @@ module _ (A : Type 0) (f : ℕ → List A → A → Line) (name : List ℕ) (ok 
     pub one_refused : ((s : ℕ × List A) → Apart fits (row f s)) → (old now new : Reading) (held : Option ℕ) (ys : List A) (fault : ReadFault)
         (g : Goes old now held ys) → length ys < g.n → Refused (row f (g.n, ys)) now fault new → Refused section old fault new
     one_refused apart old now new held ys fault g less r =
-        counting.one_refused A (ℕ × List A) (row f) (behind_row f) (first_row f) name ok section whole_alike some apart old now new held (λ n. (n, ys)) ys fault g
+        counting.one_refused A (ℕ × List A) (row f) (behind_row f) (first_row f) name ok section whole_alike some apart old now new held (λ n. (n, ys)) ys
+        fault g
         less r
 
     pub ends : (old now : Reading) (held : Option ℕ) (ys : List A) (read : ℕ) (b : Bool) (g : Goes old now held ys) → read ≡ length ys → Tells b read held

@@ -65,7 +65,8 @@ toggle_takes =
 
 pub toggle_front : (old new : Reading) (fault : ReadFault) → Refused (marks two_tokens) old fault new → Refused (marks toggle_tokens) old fault new
 toggle_front =
-    refused_front TwoNumbers TwoNumbers ToggleEntry two_tokens two_tokens toggle_tokens toggle_to toggle_from (λ t. refl) (λ t. refl) (λ p. refl) apart_two (0, 0)
+    refused_front TwoNumbers TwoNumbers ToggleEntry two_tokens two_tokens toggle_tokens toggle_to toggle_from (λ t. refl) (λ t. refl) (λ p. refl) apart_two
+    (0, 0)
 
 pub toggle_back : (old mid new : Reading) (a : TwoNumbers) (fault : ReadFault) → Takes (marks two_tokens) old mid a → Refused (marks two_tokens) mid fault new
     → Refused (marks toggle_tokens) old fault new
@@ -74,7 +75,8 @@ toggle_back =
 
 pub apart_toggle : Apart fits (marks toggle_tokens)
 apart_toggle =
-    apart_parts TwoNumbers TwoNumbers ToggleEntry two_tokens two_tokens toggle_tokens toggle_to toggle_from (λ t. refl) (λ t. refl) (λ p. refl) apart_two apart_two
+    apart_parts TwoNumbers TwoNumbers ToggleEntry two_tokens two_tokens toggle_tokens toggle_to toggle_from (λ t. refl) (λ t. refl) (λ p. refl) apart_two
+    apart_two
 
 -- ---- variables
 

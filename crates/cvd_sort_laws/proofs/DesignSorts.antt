@@ -71,11 +71,13 @@ module _ (of : MarkSort) where
     pub vars_sorted : (load : Load) → MarksSorted of top (λ vars. marks_of load (var_lines vars))
     vars_sorted load =
         sorted_via fits (has_sort of) (List Var) (List Var) (λ l. l)
-        (headed_marks (each_lines one_var) (each_load one_var) (head_marks (codes "vars") (vars_flag load)) (λ n. load)) (λ vars. marks_of load (var_lines vars))
+        (headed_marks (each_lines one_var) (each_load one_var) (head_marks (codes "vars") (vars_flag load)) (λ n. load))
+        (λ vars. marks_of load (var_lines vars))
         (vars_alike load) top
         (headed_sorted fits (has_sort of) Var Load (each_lines one_var) (each_load one_var)
         (λ before. apart_row var_tokens (λ b v. stands b (var_line v)) apart_var before) top
-        (λ before. row_sorted of var_tokens (λ b v. stands b (var_line v)) top apart_var sorted_var before) (head_marks (codes "vars") (vars_flag load)) (λ n. load)
+        (λ before. row_sorted of var_tokens (λ b v. stands b (var_line v)) top apart_var sorted_var before) (head_marks (codes "vars") (vars_flag load))
+        (λ n. load)
         (apart_head_marks (codes "vars") (vars_flag load)) (head_sorted of top (codes "vars") (vars_flag load)))
 
     -- ---- inputs, outputs, toggle entries
@@ -90,14 +92,18 @@ module _ (of : MarkSort) where
     inputs_sorted load vars =
         section_sorted of load (codes "inputs") (λ n. nat_lt 0 n || length (input_numbers vars) == 0) input_tokens (is_input_line (with_vars vars)) top
         (λ s. apart_row input_tokens (λ (s : Seen Input) i. stands load (line (input_tokens i) (is_input_line (with_vars vars) s.0 s.1 i))) apart_input s)
-        (λ s. row_sorted of input_tokens (λ (s : Seen Input) i. stands load (line (input_tokens i) (is_input_line (with_vars vars) s.0 s.1 i))) top apart_input sorted_input s)
+        (λ s. row_sorted of input_tokens (λ (s : Seen Input) i. stands load (line (input_tokens i) (is_input_line (with_vars vars) s.0 s.1 i))) top
+        apart_input sorted_input s)
 
     pub outputs_sorted : (load : Load) (vars : List Var) → MarksSorted of top (λ outputs. marks_of load (output_lines (with_outputs vars outputs)))
     outputs_sorted load vars =
-        section_sorted of load (codes "outputs") (λ n. true) number_tokens (λ n before v. is_plain_var (with_vars vars) v && list_all (λ u. nat_lt u v) before) top
-        (λ s. apart_row number_tokens (λ (s : Seen ℕ) v. stands load (line (number_tokens v) (is_plain_var (with_vars vars) v && list_all (λ u. nat_lt u v) s.1)))
+        section_sorted of load (codes "outputs") (λ n. true) number_tokens
+        (λ n before v. is_plain_var (with_vars vars) v && list_all (λ u. nat_lt u v) before) top
+        (λ s. apart_row number_tokens (λ (s : Seen ℕ) v. stands load
+        (line (number_tokens v) (is_plain_var (with_vars vars) v && list_all (λ u. nat_lt u v) s.1)))
         typeds.apart_number s)
-        (λ s. row_sorted of number_tokens (λ (s : Seen ℕ) v. stands load (line (number_tokens v) (is_plain_var (with_vars vars) v && list_all (λ u. nat_lt u v) s.1))) top
+        (λ s. row_sorted of number_tokens
+        (λ (s : Seen ℕ) v. stands load (line (number_tokens v) (is_plain_var (with_vars vars) v && list_all (λ u. nat_lt u v) s.1))) top
         typeds.apart_number (sorted_number top) s)
 
     pub sorted_toggle : TokensSorted top toggle_tokens
@@ -119,5 +125,6 @@ module _ (of : MarkSort) where
         (λ k q. line_marks (stands load (process_line d counters k)) q.0 ++ block_marks (record { design = d; counters = counters; kind = k }) load 1 q.1) top
         (λ k. apart_marks process_tokens k (apart_process_kind k))
         (lifted process_tokens of top (sorts_one is_token is_numeric ProcessKind (λ k. word (process_word k)) (λ v w. refl) top))
-        (λ k. end_then of top (stands load (process_line d counters k)) (List Step) (λ steps. block_marks (record { design = d; counters = counters; kind = k }) load 1 steps)
+        (λ k. end_then of top (stands load (process_line d counters k)) (List Step)
+        (λ steps. block_marks (record { design = d; counters = counters; kind = k }) load 1 steps)
         (sorted_block of top (record { design = d; counters = counters; kind = k }) load 1)))

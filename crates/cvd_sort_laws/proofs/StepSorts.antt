@@ -94,11 +94,13 @@ module _ (of : MarkSort) where
         where
           one : (b : Load) → MarksSorted of most (item_marks around width b)
           one b =
-              sorted_via fits (has_sort of) ItemParts StepItem parts_of_item (item_parts around width b) (item_marks around width b) (item_alike around width b) most
+              sorted_via fits (has_sort of) ItemParts StepItem parts_of_item (item_parts around width b) (item_marks around width b)
+              (item_alike around width b) most
               (word_then (codes "item") _ _
               (then_sorts ℕ (λ mask. (value : Typed) × Unit {0}) (marks hex_tokens)
               (λ mask q. marks tokens_of q.0 ++ line_marks (stands b (item_line around width (item_of mask q.0))) q.1) most apart_hex hexes
-              (λ mask. value_then (λ value. Unit {0}) (λ value. line_marks (stands b (item_line around width (item_of mask value)))) (λ value. sorted_end of most _))))
+              (λ mask. value_then (λ value. Unit {0}) (λ value. line_marks (stands b (item_line around width (item_of mask value))))
+              (λ value. sorted_end of most _))))
 
       assigned : (before : Load) (at : Spot) (sort : Sort) (name : List ℕ) → MarksSorted of most (assigned_marks around before at sort name)
       assigned before at sort name =
@@ -118,9 +120,11 @@ module _ (of : MarkSort) where
             ended_sorted fits (has_sort of) Step Within (block_step around deep) (behind_step around deep) (block_end around deep) first (after_end around deep)
             (end_begins around deep) head (after_head around deep) (step_begins around deep) told (λ s t x. refl) (λ s t. refl)
             (λ w. apart_choice fits Step Within (block_step around deep) (behind_step around deep) (block_end around deep) first (after_end around deep)
-            (end_begins around deep) head (after_head around deep) (step_begins around deep) told w (apart_step around w.load (record { deep = deep; before = w.before })))
+            (end_begins around deep) head (after_head around deep) (step_begins around deep) told w
+            (apart_step around w.load (record { deep = deep; before = w.before })))
             most
-            (λ w. choice_sorted fits (has_sort of) Step Within (block_step around deep) (behind_step around deep) (block_end around deep) first (after_end around deep)
+            (λ w. choice_sorted fits (has_sort of) Step Within (block_step around deep) (behind_step around deep) (block_end around deep) first
+            (after_end around deep)
             (end_begins around deep) head (after_head around deep) (step_begins around deep) told (λ s t x. refl) (λ s t. refl) most w
             (steps w.load (record { deep = deep; before = w.before })) (ends w))
           where
@@ -142,9 +146,11 @@ module _ (of : MarkSort) where
 
         blocks : (before : Load) (deep : ℕ) → MarksSorted of most (λ body. block_marks around before deep body)
         blocks before deep =
-            sorted_via fits (has_sort of) Block (List Step) (parts_of_block around deep) (block_parts around before deep) (λ body. block_marks around before deep body)
+            sorted_via fits (has_sort of) Block (List Step) (parts_of_block around deep) (block_parts around before deep)
+            (λ body. block_marks around before deep body)
             (block_alike around deep before) most
-            (word_then (codes "begin") _ _ (end_then (stands before (begin_line deep)) (List Step) (steps_marks around deep (within before 0)) (turn deep (within before 0))))
+            (word_then (codes "begin") _ _
+            (end_then (stands before (begin_line deep)) (List Step) (steps_marks around deep (within before 0)) (turn deep (within before 0))))
 
         arm : (width deep : ℕ) (before : Load) → MarksSorted of most (arm_marks around width deep before)
         arm width deep before =
@@ -172,30 +178,37 @@ module _ (of : MarkSort) where
             (λ q. block_marks around (added before (if_line around at test).load) (at.deep + 1) q.0
             ++ block_marks around (load_behind (added before (if_line around at test).load) (block_lines_at around (at.deep + 1) q.0)) (at.deep + 1) q.1)
             (then_sorts (List Step) (λ left. List Step) (λ left. block_marks around (added before (if_line around at test).load) (at.deep + 1) left)
-            (λ left right. block_marks around (load_behind (added before (if_line around at test).load) (block_lines_at around (at.deep + 1) left)) (at.deep + 1) right)
-            most (apart_block around (added before (if_line around at test).load) (at.deep + 1)) (blocks (added before (if_line around at test).load) (at.deep + 1))
+            (λ left right. block_marks around (load_behind (added before (if_line around at test).load) (block_lines_at around (at.deep + 1) left))
+            (at.deep + 1) right)
+            most (apart_block around (added before (if_line around at test).load) (at.deep + 1))
+            (blocks (added before (if_line around at test).load) (at.deep + 1))
             (λ left. blocks (load_behind (added before (if_line around at test).load) (block_lines_at around (at.deep + 1) left)) (at.deep + 1))))
         parts before at a_case =
             number_then (λ n. (on : Typed) × ((ended : Unit {0}) × ((arms : Many StepArm n) × List Step)))
             (λ n q. marks tokens_of q.0 ++ (line_marks (stands before (case_line around at n q.0)) q.1.0
             ++ (arms_marks around (width_of around.design q.0) at.deep (added before (case_line around at n q.0).load) n q.1.1.0
-            ++ block_marks around (behind_arms around (width_of around.design q.0) at.deep (added before (case_line around at n q.0).load) q.1.1.0.items) (at.deep + 1)
+            ++ block_marks around (behind_arms around (width_of around.design q.0) at.deep (added before (case_line around at n q.0).load) q.1.1.0.items)
+            (at.deep + 1)
             q.1.1.1)))
             (λ n. value_then (λ on. (ended : Unit {0}) × ((arms : Many StepArm n) × List Step))
             (λ on q. line_marks (stands before (case_line around at n on)) q.0
             ++ (arms_marks around (width_of around.design on) at.deep (added before (case_line around at n on).load) n q.1.0
-            ++ block_marks around (behind_arms around (width_of around.design on) at.deep (added before (case_line around at n on).load) q.1.0.items) (at.deep + 1) q.1.1))
+            ++ block_marks around (behind_arms around (width_of around.design on) at.deep (added before (case_line around at n on).load) q.1.0.items)
+            (at.deep + 1) q.1.1))
             (λ on. end_then (stands before (case_line around at n on)) ((arms : Many StepArm n) × List Step)
             (λ q. arms_marks around (width_of around.design on) at.deep (added before (case_line around at n on).load) n q.0
-            ++ block_marks around (behind_arms around (width_of around.design on) at.deep (added before (case_line around at n on).load) q.0.items) (at.deep + 1) q.1)
+            ++ block_marks around (behind_arms around (width_of around.design on) at.deep (added before (case_line around at n on).load) q.0.items)
+            (at.deep + 1) q.1)
             (then_sorts (Many StepArm n) (λ arms. List Step)
             (arms_marks around (width_of around.design on) at.deep (added before (case_line around at n on).load) n)
             (λ arms rest. block_marks around (behind_arms around (width_of around.design on) at.deep (added before (case_line around at n on).load) arms.items)
             (at.deep + 1) rest) most
             (all_apart fits StepArm Load (arm_marks around (width_of around.design on) at.deep) (behind_arm around (width_of around.design on) at.deep)
             (apart_arm around (width_of around.design on) at.deep) n (added before (case_line around at n on).load))
-            (many_sorted fits (has_sort of) StepArm Load (arm_marks around (width_of around.design on) at.deep) (behind_arm around (width_of around.design on) at.deep)
-            (apart_arm around (width_of around.design on) at.deep) most (λ b. arm (width_of around.design on) at.deep b) n (added before (case_line around at n on).load))
+            (many_sorted fits (has_sort of) StepArm Load (arm_marks around (width_of around.design on) at.deep)
+            (behind_arm around (width_of around.design on) at.deep)
+            (apart_arm around (width_of around.design on) at.deep) most (λ b. arm (width_of around.design on) at.deep b) n
+            (added before (case_line around at n on).load))
             (λ arms. blocks (behind_arms around (width_of around.design on) at.deep (added before (case_line around at n on).load) arms.items) (at.deep + 1)))))
         parts before at a_show =
             number_then (λ n. (shown : Many Piece n) × Unit {0}) (λ n q. pieces_marks n q.0 ++ line_marks (stands before (show_line around at q.0.items)) q.1)
@@ -225,7 +238,8 @@ module _ (of : MarkSort) where
       sorted_via fits (has_sort of) StepWhole Step parts_of_step (step_whole around before at) (step_marks around before at) (step_alike around before at) zero
       (front_word around before at)
   sorted_step (suc most) around before at =
-      sorted_via fits (has_sort of) StepWhole Step parts_of_step (step_whole around before at) (step_marks around before at) (step_alike around before at) (suc most)
+      sorted_via fits (has_sort of) StepWhole Step parts_of_step (step_whole around before at) (step_marks around before at) (step_alike around before at)
+      (suc most)
       (sorts_pair fits StepHead StepParts (marks step_tokens) (step_parts around before at) apart_head (suc most) most (λ h. omega arith) (has_sort of)
       (sorts_one fits (has_sort of) StepHead (λ h. token (word (step_word h))) (λ v w. refl) (suc most))
       (parts most around (λ b a. sorted_step most around b a) before at))

@@ -90,7 +90,8 @@ module _ (of : MarkSort) (top : ℕ) where
       → MarksSorted of top (λ processes. marks_of load (processes_lines (with_processes vars processes) n))
   processes_sorted load vars n =
       sorted_via fits (has_sort of) (List Process) (List Process) (λ l. l)
-      (headed_marks (each_lines (process_lines (with_vars vars) n)) (each_load (process_lines (with_vars vars) n)) (head_marks (codes "processes") (processes_flag load))
+      (headed_marks (each_lines (process_lines (with_vars vars) n)) (each_load (process_lines (with_vars vars) n))
+      (head_marks (codes "processes") (processes_flag load))
       (λ k. load)) (λ processes. marks_of load (processes_lines (with_processes vars processes) n)) alike top
       (headed_sorted fits (has_sort of) Process Load (each_lines (process_lines (with_vars vars) n)) (each_load (process_lines (with_vars vars) n))
       (apart_process (with_vars vars) n) top (process_sorted of top (with_vars vars) n) (head_marks (codes "processes") (processes_flag load)) (λ k. load)
@@ -100,7 +101,8 @@ module _ (of : MarkSort) (top : ℕ) where
           ≡ headed_marks (each_lines (process_lines (with_vars vars) n)) (each_load (process_lines (with_vars vars) n))
           (head_marks (codes "processes") (processes_flag load)) (λ k. load) ps
       alike ps =
-          marks_plain load (heading_tokens (codes "processes") (length ps)) (nat_le (length ps) (most limit.Processes)) (flat_map (process_lines (with_vars vars) n) ps)
+          marks_plain load (heading_tokens (codes "processes") (length ps)) (nat_le (length ps) (most limit.Processes))
+          (flat_map (process_lines (with_vars vars) n) ps)
           ∙ ap (λ z. map token (heading_tokens (codes "processes") (length ps)) ++ line_end (processes_flag load (length ps)) ∷ z)
           (each_joined (process_lines (with_vars vars) n) load ps)
 
@@ -121,7 +123,8 @@ module _ (of : MarkSort) (top : ℕ) where
       → MarksSorted of top (λ a. marks_of load (lines a)) → ((a : A) (load : Load) → MarksSorted of top (more a load))
       → MarksSorted of top (section_then lines more load)
   section_then_sorted {A} {B} lines more load apart first second =
-      then_sorts of A (λ a. B) (λ a. marks_of load (lines a)) (λ a. more a (load_behind load (lines a))) top apart first (λ a. second a (load_behind load (lines a)))
+      then_sorts of A (λ a. B) (λ a. marks_of load (lines a)) (λ a. more a (load_behind load (lines a))) top apart first
+      (λ a. second a (load_behind load (lines a)))
 
 -- ---- the whole
 
@@ -133,9 +136,13 @@ module _ (top : ℕ) where
       (λ u. then_sorts numbers ℕ (λ n. Variables) (head_marks (codes "counters") counters_stand) (λ n. variables_on n no_load) top
       (apart_head_marks (codes "counters") counters_stand) (head_sorted numbers top (codes "counters") counters_stand)
       (λ n. section_then_sorted numbers top var_lines (λ vars. inputs_on vars n) no_load (apart_vars no_load) (vars_sorted numbers top no_load)
-      (λ vars l1. section_then_sorted numbers top (λ i. input_lines (with_inputs vars i)) (λ i. outputs_on vars n) l1 (apart_inputs l1 vars) (inputs_sorted numbers top l1 vars)
-      (λ i l2. section_then_sorted numbers top (λ o. output_lines (with_outputs vars o)) (λ o. processes_on vars n) l2 (apart_outputs l2 vars) (outputs_sorted numbers top l2 vars)
+      (λ vars l1. section_then_sorted numbers top (λ i. input_lines (with_inputs vars i)) (λ i. outputs_on vars n) l1 (apart_inputs l1 vars)
+      (inputs_sorted numbers top l1 vars)
+      (λ i l2. section_then_sorted numbers top (λ o. output_lines (with_outputs vars o)) (λ o. processes_on vars n) l2 (apart_outputs l2 vars)
+      (outputs_sorted numbers top l2 vars)
       (λ o l3. section_then_sorted numbers top (λ p. processes_lines (with_processes vars p) n) (λ p. toggles_on vars n) l3 (apart_processes l3 vars n)
       (processes_sorted numbers top l3 vars n)
-      (λ p l4. section_then_sorted numbers top (toggle_lines (with_vars vars) n) (λ t. points_on n) l4 (apart_toggles l4 vars n) (toggles_sorted numbers top l4 vars n)
-      (λ t l5. section_then_sorted numbers top (point_lines n) (λ q. last_marks) l5 (apart_points l5 n) (points_sorted top l5 n) (λ q l6. last_sorted numbers top l6)))))))))
+      (λ p l4. section_then_sorted numbers top (toggle_lines (with_vars vars) n) (λ t. points_on n) l4 (apart_toggles l4 vars n)
+      (toggles_sorted numbers top l4 vars n)
+      (λ t l5. section_then_sorted numbers top (point_lines n) (λ q. last_marks) l5 (apart_points l5 n) (points_sorted top l5 n)
+      (λ q l6. last_sorted numbers top l6)))))))))

@@ -82,7 +82,8 @@ arm_is_apart arm each around width deep before =
     (word_then (codes "arm") _ _ _
     (number_then (λ n. (ended : Unit {0}) × ((items : Many StepItem n) × List Step))
     (λ n q. line_marks (stands before (arm_line n)) q.0 ++ (items_marks around width before n q.1.0
-    ++ block_marks around (behind_items around width before q.1.0.items) (deep + 1) q.1.1)) (length arm.items) (tt, (many (length arm.items) arm.items refl, arm.body))
+    ++ block_marks around (behind_items around width before q.1.0.items) (deep + 1) q.1.1)) (length arm.items)
+    (tt, (many (length arm.items) arm.items refl, arm.body))
     (end_then (stands before (arm_line (length arm.items))) _ _ _
     (after.apart_pair fits (Many StepItem (length arm.items)) (λ items. List Step) (items_marks around width before (length arm.items))
     (λ items body. block_marks around (behind_items around width before items.items) (deep + 1) body) (many (length arm.items) arm.items refl) arm.body
@@ -95,7 +96,8 @@ apart_parts : (one : Step-F Step StepArm)
     → ((around : Around) (before : Load) (at : Spot)
     → ApartAt fits (step_parts around before at (layer_parts one).0) (layer_parts one).1) → IsApart (roll-Step one)
 apart_parts one apart around before at =
-    single.apart_via fits StepWhole Step made_step parts_of_step step_there (step_whole around before at) (step_marks around before at) (step_alike around before at)
+    single.apart_via fits StepWhole Step made_step parts_of_step step_there (step_whole around before at) (step_marks around before at)
+    (step_alike around before at)
     (roll-Step one)
     (subst (λ y. ApartAt fits (step_whole around before at) (layer_parts y)) (sym (out-roll-Step one))
     (after.apart_pair fits StepHead StepParts (marks step_tokens) (step_parts around before at) (layer_parts one).0 (layer_parts one).1
@@ -110,7 +112,8 @@ apart_assigned sort name targets value around before at =
     (λ n q. targets_marks n q.0 ++ (marks tokens_of q.1.0 ++ line_marks (stands before (assigning around at sort name q.0.items q.1.0)) q.1.1)) n
     (given, (value, tt))
     (after.apart_pair fits (Many Target n) (λ targets. (value : Typed) × Unit {0}) (targets_marks n)
-    (λ targets q. marks tokens_of q.0 ++ line_marks (stands before (assigning around at sort name targets.items q.0)) q.1) given (value, tt) (apart_targets n given)
+    (λ targets q. marks tokens_of q.0 ++ line_marks (stands before (assigning around at sort name targets.items q.0)) q.1) given (value, tt)
+    (apart_targets n given)
     (value_then (λ value. Unit {0}) (λ value. line_marks (stands before (assigning around at sort name targets value))) value tt (apart_end _ tt)))
 
 apart_tested : (test : Typed) (left right : List Step) → AllByRecursion IsApart left → AllByRecursion IsApart right
@@ -144,17 +147,20 @@ apart_chosen on arms rest p q around before at =
     number_then (λ n. (on : Typed) × ((ended : Unit {0}) × ((arms : Many StepArm n) × List Step)))
     (λ n q. marks tokens_of q.0 ++ (line_marks (stands before (case_line around at n q.0)) q.1.0
     ++ (arms_marks around (width_of around.design q.0) at.deep (added before (case_line around at n q.0).load) n q.1.1.0
-    ++ block_marks around (behind_arms around (width_of around.design q.0) at.deep (added before (case_line around at n q.0).load) q.1.1.0.items) (at.deep + 1) q.1.1.1)))
+    ++ block_marks around (behind_arms around (width_of around.design q.0) at.deep (added before (case_line around at n q.0).load) q.1.1.0.items)
+    (at.deep + 1) q.1.1.1)))
     n (on, (tt, (given, rest)))
     (value_then (λ on. (ended : Unit {0}) × ((arms : Many StepArm n) × List Step))
     (λ on q. line_marks (stands before (case_line around at n on)) q.0
     ++ (arms_marks around (width_of around.design on) at.deep (added before (case_line around at n on).load) n q.1.0
-    ++ block_marks around (behind_arms around (width_of around.design on) at.deep (added before (case_line around at n on).load) q.1.0.items) (at.deep + 1) q.1.1))
+    ++ block_marks around (behind_arms around (width_of around.design on) at.deep (added before (case_line around at n on).load) q.1.0.items) (at.deep + 1)
+    q.1.1))
     on (tt, (given, rest))
     (end_then (stands before (case_line around at n on)) _ _ _
     (after.apart_pair fits (Many StepArm n) (λ arms. List Step) (arms_marks around width at.deep behind n)
     (λ arms rest. block_marks around (behind_arms around width at.deep behind arms.items) (at.deep + 1) rest) given rest
-    (apart_many fits StepArm Load (arm_marks around width at.deep) (behind_arm around width at.deep) n behind arms refl (arms_are_apart arms p around width at.deep))
+    (apart_many fits StepArm Load (arm_marks around width at.deep) (behind_arm around width at.deep) n behind arms refl
+    (arms_are_apart arms p around width at.deep))
     (block_is_apart around (at.deep + 1) (behind_arms around width at.deep behind arms) rest q))))
 
 apart_shown : (pieces : List Piece) (around : Around) (before : Load) (at : Spot)
@@ -164,7 +170,8 @@ apart_shown pieces around before at =
     let given = many n pieces refl in
     number_then (λ n. (pieces : Many Piece n) × Unit {0})
     (λ n q. pieces_marks n q.0 ++ line_marks (stands before (show_line around at q.0.items)) q.1) n (given, tt)
-    (after.apart_pair fits (Many Piece n) (λ pieces. Unit {0}) (pieces_marks n) (λ pieces. line_marks (stands before (show_line around at pieces.items))) given tt
+    (after.apart_pair fits (Many Piece n) (λ pieces. Unit {0}) (pieces_marks n) (λ pieces. line_marks (stands before (show_line around at pieces.items)))
+    given tt
     (apart_pieces n given) (apart_end _ tt))
 
 -- no step's spelling is the front of another's

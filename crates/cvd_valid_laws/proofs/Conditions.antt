@@ -195,7 +195,8 @@ module _ (d : Design) (counters : ℕ) (k : ProcessKind) where
   pub pieces_typed : (pieces : List Piece) → list_all (is_piece d) pieces ≡ true → list_all (typed.is_piece d) pieces ≡ true
   pieces_typed [] e = refl
   pieces_typed (p ∷ pieces) e =
-      both_true (typed.is_piece d p) _ (first_true (typed.is_piece d p) _ (first_true (is_piece d p) _ e)) (pieces_typed pieces (second_true (is_piece d p) _ e))
+      both_true (typed.is_piece d p) _ (first_true (typed.is_piece d p) _ (first_true (is_piece d p) _ e))
+      (pieces_typed pieces (second_true (is_piece d p) _ e))
 
   one_ok : (p : Piece) → nat_le (piece_depth p) 2000 ≡ true → ok (piece_mentions p) ≡ true
   one_ok (piece.Text bytes) e = refl

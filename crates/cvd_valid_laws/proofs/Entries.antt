@@ -141,7 +141,8 @@ module _ (x : Instrumented) where
   toggles_told e =
       let g = given_told (toggle_line x.design x.counters) is_toggle toggle_below (λ before t. refl) x.toggles e in
       record {
-        ascend = all_pairs toggle_below (λ a b. IsBefore (toggle_place a) (toggle_place b)) (λ a b h. below_told (toggle_place a) (toggle_place b) h) x.toggles g.pairs;
+        ascend = all_pairs toggle_below (λ a b. IsBefore (toggle_place a) (toggle_place b)) (λ a b h. below_told (toggle_place a) (toggle_place b) h)
+            x.toggles g.pairs;
         bits = all_told is_toggle (λ t. IsBitOf x.design (toggle_bit t)) x.toggles (λ t h. bit_told t (first_true (has_bit x.design t) (in_range t) h)) g.each;
         counters = all_told is_toggle (λ t. t.counter < x.counters) x.toggles
             (λ t h. lt_of t.counter x.counters (second_true (has_bit x.design t) (in_range t) h)) g.each;
@@ -192,7 +193,8 @@ module _ (x : Instrumented) where
       record {
         ascend = all_pairs point_below (λ a b. IsBefore a.key b.key) (λ a b h. below_told a.key b.key h) x.points g.pairs;
         keys = all_told is_point (λ r. IsKey r.key) x.points
-            (λ r h. key_from_completes r.key (second_true (plus_in r && minus_in r) (keyed r) (first_true (plus_in r && minus_in r && keyed r) (short r) h))) g.each;
+            (λ r h. key_from_completes r.key (second_true (plus_in r && minus_in r) (keyed r) (first_true (plus_in r && minus_in r && keyed r) (short r) h)))
+            g.each;
         short = all_told is_point (λ r. length r.key ≤ 65000) x.points
             (λ r h. le_of (length r.key) 65000 (second_true (plus_in r && minus_in r && keyed r) (short r) h)) g.each;
         plus = all_told is_point (λ r. counters_in r.plus) x.points

@@ -248,7 +248,8 @@ module _ (d : Design) where
             (all_stands named (λ i. IsTrue (is_name i.name)) d.inputs (λ i e. e) h.names);
         order = behind_pairs before_input d.inputs (both_pairs lower other d.inputs
             (over_pairs var_in (λ m n. nat_lt m n) d.inputs (pairs_all (λ m n. nat_lt m n) (λ m n. m < n) (λ m n lt. of_lt m n lt) (input_vars d) h.ascend))
-            (pairs_all other (λ a b. a.name ≢ b.name) (λ a b ne. not_stands (bytes_eq a.name b.name) (λ e. ne ((bytes_decides a.name b.name).0 e))) d.inputs h.differ));
+            (pairs_all other (λ a b. a.name ≢ b.name) (λ a b ne. not_stands (bytes_eq a.name b.name) (λ e. ne ((bytes_decides a.name b.name).0 e))) d.inputs
+            h.differ));
         ends = ends_stand [] d.inputs (omega arith) (same_stands (input_vars d) numbers (same_valid h));
       })
     where

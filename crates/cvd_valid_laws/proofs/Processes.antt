@@ -87,11 +87,15 @@ module _ (d : Design) (counters : ℕ) (k : ProcessKind) where
 
   pub depths_of : (ms : List Mention) → ok d counters k ms ≡ true → AllByRecursion (λ m. mention_depth m ≤ 2000) ms
   depths_of [] e = tt
-  depths_of (expression x ∷ ms) e =
-      (le_of (depth x) 2000 (first_true (nat_le (depth x) 2000) (ok d counters k ms) e), depths_of ms (second_true (nat_le (depth x) 2000) (ok d counters k ms) e))
+  depths_of (expression x ∷ ms) e = (
+    le_of (depth x) 2000 (first_true (nat_le (depth x) 2000) (ok d counters k ms) e),
+    depths_of ms
+        (second_true (nat_le (depth x) 2000) (ok d counters k ms) e),
+  )
   depths_of (destination t ∷ ms) e =
       let same = same_kind (var_of d (var_named t)).kind (kind_written k) in (
-        le_of (target_depth t) 2000 (second_true same (nat_le (target_depth t) 2000) (first_true (same && nat_le (target_depth t) 2000) (ok d counters k ms) e)),
+        le_of (target_depth t) 2000 (second_true same (nat_le (target_depth t) 2000)
+            (first_true (same && nat_le (target_depth t) 2000) (ok d counters k ms) e)),
         depths_of ms (second_true (same && nat_le (target_depth t) 2000) (ok d counters k ms) e),
       )
   depths_of (shown p ∷ ms) e = (omega arith, depths_of ms e)

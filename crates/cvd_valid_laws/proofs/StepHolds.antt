@@ -196,7 +196,8 @@ module _ (d : Design) (counters : ℕ) (k : ProcessKind) where
       let z = fold-If ℕ ℕ step_depth arm_depth test left right in
       record {
         formed = fold-If Bool (ℕ → Bool) (step_formed d counters) (arm_formed d) test left right
-            ∙ both_true _ _ (both_true _ _ (both_true _ _ (expression_typed test (first_true typed wide head)) (second_true typed wide head)) l.1.formed) r.1.formed;
+            ∙ both_true _ _ (both_true _ _ (both_true _ _ (expression_typed test (first_true typed wide head)) (second_true typed wide head)) l.1.formed)
+            r.1.formed;
         quiet = λ s. fold-If Bool Bool step_tells arm_tells test left right
             ∙ neither (any_of (map tells left)) (any_of (map tells right)) (l.1.quiet s) (r.1.quiet s);
         mentions = ap (ok d counters k) (fold-If (List Mention) (List Mention) step_mentions arm_mentions test left right)

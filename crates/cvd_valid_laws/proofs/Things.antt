@@ -96,8 +96,11 @@ module _ (v : Var) where
 
 pub vars_told : (vars : List Var) → holds_all (map var_line vars) ≡ true → AllByRecursion IsVariable vars
 vars_told [] e = tt
-vars_told (v ∷ vars) e =
-    (variable_told v (first_true (is_variable v) (holds_all (map var_line vars)) e), vars_told vars (second_true (is_variable v) (holds_all (map var_line vars)) e))
+vars_told (v ∷ vars) e = (
+  variable_told v (first_true (is_variable v) (holds_all (map var_line vars)) e),
+  vars_told vars
+      (second_true (is_variable v) (holds_all (map var_line vars)) e),
+)
 
 pub vars_stand : (vars : List Var) → AllByRecursion IsVariable vars → holds_all (map var_line vars) ≡ true
 vars_stand [] h = refl

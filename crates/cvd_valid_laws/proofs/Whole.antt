@@ -195,7 +195,8 @@ module _ (x : Instrumented) where
         points = points_told x (second_true (nat_le (length x.points) 1048576) (holds_all (lines_behind (point_line n) [] x.points)) q);
         limits = record {
           bits = omega (arith, few.bits);
-          processes = le_of (length d.processes) 65536 (first_true (nat_le (length d.processes) 65536) (holds_all (flat_map (process_lines d n) d.processes)) p);
+          processes = le_of (length d.processes) 65536
+              (first_true (nat_le (length d.processes) 65536) (holds_all (flat_map (process_lines d n) d.processes)) p);
           steps = omega (arith, few.steps);
           nodes = omega (arith, few.nodes);
           printed = omega (arith, few.shown);

@@ -65,12 +65,16 @@ place_named s at w i h = go (is_constant at) refl
     go false c = refl
 
 part_named : (s : State) (t : Target) (n : ℕ) (b : Bit) → has_bit (part_at s t n) b ≡ true → names_bit b t ≡ true
-part_named s (target.Whole v) n b h = imply (v == b.var) (is_word_in (Some (pos 0)) b.word) (is_place_in (Some (pos 0, (held s v).width)) b.place) (is_word_in (Some (pos 0)) b.word) true (λ i. i) (λ i. refl) h
-part_named s (target.Part v w at) n b h = imply (v == b.var) (is_word_in (Some (pos 0)) b.word) (is_place_in (Some (position_in s at, w)) b.place) (is_word_in (Some (pos 0)) b.word) (is_place_in (places_from (constant_position at) w) b.place)
+part_named s (target.Whole v) n b h = imply (v == b.var) (is_word_in (Some (pos 0)) b.word) (is_place_in (Some (pos 0, (held s v).width)) b.place)
+    (is_word_in (Some (pos 0)) b.word) true (λ i. i) (λ i. refl) h
+part_named s (target.Part v w at) n b h = imply (v == b.var) (is_word_in (Some (pos 0)) b.word) (is_place_in (Some (position_in s at, w)) b.place)
+    (is_word_in (Some (pos 0)) b.word) (is_place_in (places_from (constant_position at) w) b.place)
     (λ i. i) (place_named s at w b.place) h
-part_named s (target.Word v at) n b h = imply (v == b.var) (is_word_in (Some (position_in s at)) b.word) (is_place_in (Some (pos 0, (held s v).width)) b.place) (is_word_in (constant_position at) b.word) true
+part_named s (target.Word v at) n b h = imply (v == b.var) (is_word_in (Some (position_in s at)) b.word)
+    (is_place_in (Some (pos 0, (held s v).width)) b.place) (is_word_in (constant_position at) b.word) true
     (word_named s at b.word) (λ i. refl) h
-part_named s (target.WordPart v word w at) n b h = imply (v == b.var) (is_word_in (Some (position_in s word)) b.word) (is_place_in (Some (position_in s at, w)) b.place) (is_word_in (constant_position word) b.word) (is_place_in (places_from (constant_position at) w) b.place)
+part_named s (target.WordPart v word w at) n b h = imply (v == b.var) (is_word_in (Some (position_in s word)) b.word)
+    (is_place_in (Some (position_in s at, w)) b.place) (is_word_in (constant_position word) b.word) (is_place_in (places_from (constant_position at) w) b.place)
     (word_named s word b.word) (place_named s at w b.place) h
 
 unnamed : (s : State) (ts : List Target) (n : ℕ) (b : Bit) → list_any (names_bit b) ts ≡ false → list_any (λ p. has_bit p b) (parts_at s ts n) ≡ false

@@ -51,7 +51,8 @@ module _ (d : Design) (valid : IsValidDesign d) (flows : Flows d) where
   unread p [] b sp a hb rp = tt
   unread p (q ∷ qs) b sp a hb rp = (
     elim (cases_Bool (drives d q b)) [
-      | inl dq ↦ absurd (a.0.no_way (record { from = a.0.settling; to = sp; apart = inl (λ e. a.0.apart (sym e)); along = b; here = hb; driven = dq; read = early_reads d p b rp }))
+      | inl dq ↦ absurd (a.0.no_way (record
+          { from = a.0.settling; to = sp; apart = inl (λ e. a.0.apart (sym e)); along = b; here = hb; driven = dq; read = early_reads d p b rp }))
       | inr n ↦ n
     ],
     unread p qs b sp a.1 hb rp,

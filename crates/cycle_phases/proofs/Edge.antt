@@ -156,4 +156,5 @@ module _ (d : Design) (valid : IsValidDesign d) (flows : Flows d) (s : State) (h
 
 pub edge_in_turn : EdgeInTurn
 edge_in_turn d s valid flows hs = is_edge d valid flows s hs
-    (subst (Chained d s (length d.processes)) (all_turns runs_at_edge d s (length d.processes) (omega arith)) (chained d valid flows s hs (length d.processes) (omega arith)))
+    (subst (Chained d s (length d.processes)) (all_turns runs_at_edge d s (length d.processes) (omega arith))
+    (chained d valid flows s hs (length d.processes) (omega arith)))

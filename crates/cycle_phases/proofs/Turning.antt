@@ -41,7 +41,8 @@ begins sort d s e room ticks hs is same = subst (λ e. Turning sort d s 0 s e ti
   ticks = omega arith;
 })
 
-module _ (sort : ProcessKind → Bool) (d : Design) (s : State) (n : ℕ) (now : State) (e : Effects) (old new : ℕ) (lt : n < length d.processes) (t : Turning sort d s n now e old new) where
+module _ (sort : ProcessKind → Bool) (d : Design) (s : State) (n : ℕ) (now : State) (e : Effects) (old new : ℕ) (lt : n < length d.processes)
+    (t : Turning sort d s n now e old new) where
   abbrev p : Process
   p = process_of d n
 

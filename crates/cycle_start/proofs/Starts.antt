@@ -91,7 +91,8 @@ none_settles d n s k h = record {
 
 start_bit : (d : Design) (b : Bit) → IsBitOf d b → bit (start_values d) b ≡ bit_at (var_of d b.var).start b.place
 start_bit d b hb =
-    ap (λ x. bit_at (slice_index x.words b.word) b.place) (get_or-map (λ v. record { width = v.width; words = replicate v.words v.start }) d.vars b.var no_var no_words hb.of_variable)
+    ap (λ x. bit_at (slice_index x.words b.word) b.place)
+    (get_or-map (λ v. record { width = v.width; words = replicate v.words v.start }) d.vars b.var no_var no_words hb.of_variable)
     ∙ ap (λ n. bit_at n b.place) (get_or-replicate (var_of d b.var).words b.word (var_of d b.var).start 0 hb.of_word)
 
 -- some number below n passes a test, or none does

@@ -37,12 +37,14 @@ none_in : (sort : ProcessKind → Bool) (b : Bit) (ps : List Process)
     → ((p : ℕ) → IsTrue (sort (at ps p).kind) → IsTrue (drives_of (at ps p).body b) → ⊥) → driven_in sort b ps ≡ false
 none_in sort b [] h = refl
 none_in sort b (p ∷ ps) h = elim (cases_Bool (sort p.kind)) [
-  | inl e ↦ subst (λ c. list_any (λ q. q.drives b) (cond c (as_process p ∷ filter (λ q. sort q.kind) (map as_process ps)) (filter (λ q. sort q.kind) (map as_process ps))) ≡ false) (sym e)
+  | inl e ↦ subst (λ c. list_any (λ q. q.drives b)
+      (cond c (as_process p ∷ filter (λ q. sort q.kind) (map as_process ps)) (filter (λ q. sort q.kind) (map as_process ps))) ≡ false) (sym e)
       (elim (cases_Bool (drives_of p.body b)) [
         | inl t ↦ absurd (h zero e t)
         | inr n ↦ subst (λ c. (c || driven_in sort b ps) ≡ false) (sym n) (none_in sort b ps (λ k. h (suc k)))
       ])
-  | inr e ↦ subst (λ c. list_any (λ q. q.drives b) (cond c (as_process p ∷ filter (λ q. sort q.kind) (map as_process ps)) (filter (λ q. sort q.kind) (map as_process ps))) ≡ false) (sym e)
+  | inr e ↦ subst (λ c. list_any (λ q. q.drives b)
+      (cond c (as_process p ∷ filter (λ q. sort q.kind) (map as_process ps)) (filter (λ q. sort q.kind) (map as_process ps))) ≡ false) (sym e)
       (none_in sort b ps (λ k. h (suc k)))
 ]
 
@@ -50,11 +52,14 @@ in_none : (sort : ProcessKind → Bool) → sort no_process.kind ≡ false → (
     → (p : ℕ) → IsTrue (sort (at ps p).kind) → IsTrue (drives_of (at ps p).body b) → ⊥
 in_none sort n b [] h p s d = absurd (cc (n, s))
 in_none sort n b (p ∷ ps) h zero s d = first_or (drives_of p.body b) (driven_in sort b ps) d
-    (subst (λ c. list_any (λ q. q.drives b) (cond c (as_process p ∷ filter (λ q. sort q.kind) (map as_process ps)) (filter (λ q. sort q.kind) (map as_process ps))) ≡ false) s h)
+    (subst (λ c. list_any (λ q. q.drives b)
+    (cond c (as_process p ∷ filter (λ q. sort q.kind) (map as_process ps)) (filter (λ q. sort q.kind) (map as_process ps))) ≡ false) s h)
 in_none sort n b (p ∷ ps) h (suc k) s d = in_none sort n b ps (elim (cases_Bool (sort p.kind)) [
   | inl e ↦ second_or (drives_of p.body b) (driven_in sort b ps)
-      (subst (λ c. list_any (λ q. q.drives b) (cond c (as_process p ∷ filter (λ q. sort q.kind) (map as_process ps)) (filter (λ q. sort q.kind) (map as_process ps))) ≡ false) e h)
-  | inr e ↦ subst (λ c. list_any (λ q. q.drives b) (cond c (as_process p ∷ filter (λ q. sort q.kind) (map as_process ps)) (filter (λ q. sort q.kind) (map as_process ps))) ≡ false) e h
+      (subst (λ c. list_any (λ q. q.drives b)
+      (cond c (as_process p ∷ filter (λ q. sort q.kind) (map as_process ps)) (filter (λ q. sort q.kind) (map as_process ps))) ≡ false) e h)
+  | inr e ↦ subst (λ c. list_any (λ q. q.drives b)
+      (cond c (as_process p ∷ filter (λ q. sort q.kind) (map as_process ps)) (filter (λ q. sort q.kind) (map as_process ps))) ≡ false) e h
 ]) k s d
 
 -- where no process of these kinds drives a bit, none of the circuit does

@@ -39,8 +39,28 @@ module _ (d : Design) (flows : Flows d) where
   alone p q b sp sq hb dp dq = elim (cases_order p q) [
     | inl e ↦ e
     | inr o ↦ elim o [
-      | inl less ↦ absurd (flows.one_driver q b.var (record { other = p; less = less; kinds = clash_settles (kind_of d q) (kind_of d p) sq; shared = b; of_variable = refl; here = hb; driven = dq; by_other = dp }))
-      | inr more ↦ absurd (flows.one_driver p b.var (record { other = q; less = more; kinds = clash_settles (kind_of d p) (kind_of d q) sp; shared = b; of_variable = refl; here = hb; driven = dp; by_other = dq }))
+      | inl less ↦ absurd (flows.one_driver q b.var
+          (record {
+            other = p;
+            less = less;
+            kinds = clash_settles (kind_of d q) (kind_of d p) sq;
+            shared = b;
+            of_variable = refl;
+            here = hb;
+            driven = dq;
+            by_other = dp;
+          }))
+      | inr more ↦ absurd (flows.one_driver p b.var
+          (record {
+            other = q;
+            less = more;
+            kinds = clash_settles (kind_of d p) (kind_of d q) sp;
+            shared = b;
+            of_variable = refl;
+            here = hb;
+            driven = dp;
+            by_other = dq;
+          }))
     ]
   ]
 

@@ -67,10 +67,12 @@ module _ (x : Instrumented) where
       → slice_index new k ≡ slice_index old k + added k before (j ∷ ks)
   one_then k before old mid new j ks h g =
       sums (slice_index new k) (slice_index mid k) (slice_index old k) (how_many k j.notes) (how_many k (toggled before j.settled x.toggles))
-      (how_many k (flat_map (λ i. i.notes) ks)) (all_changes k x.toggles (since k before (settled_of (j ∷ ks)))) (all_changes k x.toggles (j.settled ∷ settled_of ks))
+      (how_many k (flat_map (λ i. i.notes) ks)) (all_changes k x.toggles (since k before (settled_of (j ∷ ks))))
+      (all_changes k x.toggles (j.settled ∷ settled_of ks))
       g (h ∙ ap (λ n. slice_index old k + n) (how_many_both k j.notes (toggled before j.settled x.toggles)))
       (next_changes k x.toggles before j.settled (settled_of ks))
-      ∙ ap (λ n. slice_index old k + (n + all_changes k x.toggles (since k before (settled_of (j ∷ ks))))) (sym (how_many_both k j.notes (flat_map (λ i. i.notes) ks)))
+      ∙ ap (λ n. slice_index old k + (n + all_changes k x.toggles (since k before (settled_of (j ∷ ks)))))
+      (sym (how_many_both k j.notes (flat_map (λ i. i.notes) ks)))
 
   are_run : {m after : Between} {rows : List (List ℕ)} {text : List ℕ} {end : End} → AreCycles x m rows after text end → AreRun m rows after text end
   are_run (no_rows {m}) = record {
@@ -140,7 +142,8 @@ cycles_are_runs x rows first after text texts end s a =
           add_up (slice_index after.counts k) (slice_index first.counts k) (slice_index (replicate x.counters 0) k) (how_many k o.notes)
           (how_many k (flat_map (λ j. j.notes) r.cycles)) (all_changes k x.toggles (map (λ j. j.settled) r.cycles))
           (r.counted k (subst (λ n. k < n) (sym many) lt)
-          ∙ ap (λ b. slice_index first.counts k + (how_many k (flat_map (λ j. j.notes) r.cycles) + all_changes k x.toggles (since k b (map (λ j. j.settled) r.cycles)))) s.unsettled)
+          ∙ ap (λ b. slice_index first.counts k +
+          (how_many k (flat_map (λ j. j.notes) r.cycles) + all_changes k x.toggles (since k b (map (λ j. j.settled) r.cycles)))) s.unsettled)
           (s.counted.each k (subst (λ n. k < n) (sym (length_zeros x.counters)) lt)) (zeros x.counters k)
           ∙ ap (λ n. n + all_changes k x.toggles (map (λ j. j.settled) r.cycles)) (sym (how_many_both k o.notes (flat_map (λ j. j.notes) r.cycles)));
     }

@@ -24,12 +24,14 @@ set_keeps v x n value small a = record { as_wide = a.as_wide; as_many = length-s
       | inl e ↦ subst (λ m. slice_index_or (slice_set x.words n value) m d < 2 ^ v.width) e
           (subst (λ m. m < 2 ^ v.width) (sym (get_or-set_same x.words n value d (omega (arith, e, lt, length-set x.words n value))))
           (subst (λ w. value < 2 ^ w) a.as_wide small))
-      | inr ne ↦ subst (λ m. m < 2 ^ v.width) (sym (get_or-set_other x.words n k value d (λ e. ne (sym e)))) (a.fit k d (omega (arith, lt, length-set x.words n value)))
+      | inr ne ↦ subst (λ m. m < 2 ^ v.width) (sym (get_or-set_other x.words n k value d (λ e. ne (sym e))))
+          (a.fit k d (omega (arith, lt, length-set x.words n value)))
     ]
 
 word_keeps : (v : Var) (x : VarWords) (z : ℤ) (p : Part) → AreWordsOf v x → AreWordsOf v (word_written x z p)
 word_keeps v x (negsuc n) p a = a
-word_keeps v x (pos n) p a = set_keeps v x n (replace x.width (slice_index x.words n) p.low p.width p.number) (replace_fits x.width (slice_index x.words n) p.low p.width p.number) a
+word_keeps v x (pos n) p a = set_keeps v x n (replace x.width (slice_index x.words n) p.low p.width p.number)
+    (replace_fits x.width (slice_index x.words n) p.low p.width p.number) a
 
 pub written_keeps : (d : Design) (s : State) (p : Part) → IsStateOf d s → IsStateOf d (written s p)
 written_keeps d s p h = record { as_many = length-set s p.var (word_written (held s p.var) p.word p) ∙ h.as_many; each = each }
@@ -40,7 +42,8 @@ written_keeps d s p h = record { as_many = length-set s p.var (word_written (hel
           (sym (subst (λ w. held (written s p) w
           ≡ word_written (held s w) p.word p) e (get_or-set_same s p.var (word_written (held s p.var) p.word p) no_words (omega (arith, e, lt, h.as_many)))))
           (word_keeps (var_of d v) (held s v) p.word p (h.each v lt))
-      | inr ne ↦ subst (AreWordsOf (var_of d v)) (sym (get_or-set_other s p.var v (word_written (held s p.var) p.word p) no_words (λ e. ne (sym e)))) (h.each v lt)
+      | inr ne ↦ subst (AreWordsOf (var_of d v)) (sym (get_or-set_other s p.var v (word_written (held s p.var) p.word p) no_words (λ e. ne (sym e))))
+          (h.each v lt)
     ]
 
 pub all_keep_state : (d : Design) (ps : List Part) (s : State) → IsStateOf d s → IsStateOf d (all_written s ps)

@@ -108,7 +108,11 @@ valid = record {
         ≡ 1) 1 refl;
   };
   processes = one (IsProcess follower.design 1) its_process process;
-  toggles = record { ascend = no_pairs (λ a b. IsBefore (toggle_place a) (toggle_place b)); bits = none (λ t. IsBitOf follower.design (toggle_bit t)); counters = none (λ t. t.counter < 1) };
+  toggles = record {
+    ascend = no_pairs (λ a b. IsBefore (toggle_place a) (toggle_place b));
+    bits = none (λ t. IsBitOf follower.design (toggle_bit t));
+    counters = none (λ t. t.counter < 1);
+  };
   points = record {
     ascend = no_pair (λ a b. IsBefore a.key b.key) its_point;
     keys = one (λ point. IsKey point.key) its_point ((codes "t", codes "line") ∷ (codes "o", codes "block") ∷ [], omega arith, fields, refl);

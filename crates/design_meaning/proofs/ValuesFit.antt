@@ -55,7 +55,8 @@ or_zero false n w h = h
 pub repeated_fits : (w n k : ℕ) → n < 2 ^ w → repeated w n k < 2 ^ (k * w)
 unfolding repeated
 repeated_fits w n zero h = pow_pos (0 * w)
-repeated_fits w n (suc k) h = subst (λ m. value.concat w (repeated w n k) n < 2 ^ m) (grind (arith, common_steps)) (concat_fit (k * w) w (repeated w n k) n (repeated_fits w n k h) h)
+repeated_fits w n (suc k) h = subst (λ m. value.concat w (repeated w n k) n < 2 ^ m) (grind (arith, common_steps))
+    (concat_fit (k * w) w (repeated w n k) n (repeated_fits w n k h) h)
 
 unary_fits : (op : TypedUnary) (a : Value) (w : ℕ) → HasWidth w a → HasWidth (unary_width op w) (unary_value op a)
 unary_fits unary.Not a w h = (h.0, rw (← h.0) (ones_sub-lt a.width a.number))
@@ -95,7 +96,8 @@ module _ (d : Design) (s : State) (h : IsStateOf d s) where
   at_node e a w c ea ew ec k ok = rw (ea, ew) (k (sym ec ∙ ok))
 
   number : (w n : ℕ) → Fits (e.Number w n)
-  number w n = at_node (e.Number w n) _ _ _ (typed.fold-Number Value ℤ (node_value s) index_position w n) (typed.fold-Number ℕ ℕ (node_width d) index_width w n) (typed.para-Number Bool Bool (node_typed d) index_typed w n)
+  number w n = at_node (e.Number w n) _ _ _ (typed.fold-Number Value ℤ (node_value s) index_position w n)
+      (typed.fold-Number ℕ ℕ (node_width d) index_width w n) (typed.para-Number Bool Bool (node_typed d) index_typed w n)
       (λ ok. (refl, grind (arith, common_steps, right_true (is_width w) (nat_lt n (2 ^ w)) ok)))
 
   word_fits : (v : ℕ) (z : ℤ) → word_at (held s v) z < 2 ^ (var_of d v).width
@@ -103,15 +105,18 @@ module _ (d : Design) (s : State) (h : IsStateOf d s) where
   word_fits v (negsuc n) = pow_pos (var_of d v).width
 
   variable : (v : ℕ) → Fits (e.Var v)
-  variable v = at_node (e.Var v) _ _ _ (typed.fold-Var Value ℤ (node_value s) index_position v) (typed.fold-Var ℕ ℕ (node_width d) index_width v) (typed.para-Var Bool Bool (node_typed d) index_typed v)
+  variable v = at_node (e.Var v) _ _ _ (typed.fold-Var Value ℤ (node_value s) index_position v) (typed.fold-Var ℕ ℕ (node_width d) index_width v)
+      (typed.para-Var Bool Bool (node_typed d) index_typed v)
       (λ ok. (width_of_state d s v h, word_fits v (pos 0)))
 
   word : (v : ℕ) (at : Index) → IndexHas Fits at → Fits (e.Word v at)
-  word v at k = at_node (e.Word v at) _ _ _ (typed.fold-Word Value ℤ (node_value s) index_position v at) (typed.fold-Word ℕ ℕ (node_width d) index_width v at) (typed.para-Word Bool Bool (node_typed d) index_typed v at)
+  word v at k = at_node (e.Word v at) _ _ _ (typed.fold-Word Value ℤ (node_value s) index_position v at)
+      (typed.fold-Word ℕ ℕ (node_width d) index_width v at) (typed.para-Word Bool Bool (node_typed d) index_typed v at)
       (λ ok. (width_of_state d s v h, word_fits v (position_in s at)))
 
   part : (w : ℕ) (of : Typed) (at : Index) → Fits of → IndexHas Fits at → Fits (e.Part w of at)
-  part w of at k1 k2 = at_node (e.Part w of at) _ _ _ (typed.fold-Part Value ℤ (node_value s) index_position w of at) (typed.fold-Part ℕ ℕ (node_width d) index_width w of at) (typed.para-Part Bool Bool (node_typed d) index_typed w of at)
+  part w of at k1 k2 = at_node (e.Part w of at) _ _ _ (typed.fold-Part Value ℤ (node_value s) index_position w of at)
+      (typed.fold-Part ℕ ℕ (node_width d) index_width w of at) (typed.para-Part Bool Bool (node_typed d) index_typed w of at)
       (λ ok. (refl, mod_below _ (2 ^ w) (pow_pos w)))
 
   extended : (w : ℕ) (of : Typed) (sign : Bool) → Fits of → (is_width w && is_typed d of && nat_le (width_of d of) w) ≡ true
@@ -122,23 +127,28 @@ module _ (d : Design) (s : State) (h : IsStateOf d s) where
       rw fits.0 (extend_fits (width_of d of) w (value_in s of).number sign le fits.1)
 
   zero_extend : (w : ℕ) (of : Typed) → Fits of → Fits (e.ZeroExtend w of)
-  zero_extend w of k = at_node (e.ZeroExtend w of) _ _ _ (typed.fold-ZeroExtend Value ℤ (node_value s) index_position w of) (typed.fold-ZeroExtend ℕ ℕ (node_width d) index_width w of) (typed.para-ZeroExtend Bool Bool (node_typed d) index_typed w of)
+  zero_extend w of k = at_node (e.ZeroExtend w of) _ _ _ (typed.fold-ZeroExtend Value ℤ (node_value s) index_position w of)
+      (typed.fold-ZeroExtend ℕ ℕ (node_width d) index_width w of) (typed.para-ZeroExtend Bool Bool (node_typed d) index_typed w of)
       (λ ok. (refl, extended w of false k ok))
 
   sign_extend : (w : ℕ) (of : Typed) → Fits of → Fits (e.SignExtend w of)
-  sign_extend w of k = at_node (e.SignExtend w of) _ _ _ (typed.fold-SignExtend Value ℤ (node_value s) index_position w of) (typed.fold-SignExtend ℕ ℕ (node_width d) index_width w of) (typed.para-SignExtend Bool Bool (node_typed d) index_typed w of)
+  sign_extend w of k = at_node (e.SignExtend w of) _ _ _ (typed.fold-SignExtend Value ℤ (node_value s) index_position w of)
+      (typed.fold-SignExtend ℕ ℕ (node_width d) index_width w of) (typed.para-SignExtend Bool Bool (node_typed d) index_typed w of)
       (λ ok. (refl, extended w of true k ok))
 
   truncate : (w : ℕ) (of : Typed) → Fits of → Fits (e.Truncate w of)
-  truncate w of k = at_node (e.Truncate w of) _ _ _ (typed.fold-Truncate Value ℤ (node_value s) index_position w of) (typed.fold-Truncate ℕ ℕ (node_width d) index_width w of) (typed.para-Truncate Bool Bool (node_typed d) index_typed w of)
+  truncate w of k = at_node (e.Truncate w of) _ _ _ (typed.fold-Truncate Value ℤ (node_value s) index_position w of)
+      (typed.fold-Truncate ℕ ℕ (node_width d) index_width w of) (typed.para-Truncate Bool Bool (node_typed d) index_typed w of)
       (λ ok. (refl, mod_below _ (2 ^ w) (pow_pos w)))
 
   unary_case : (op : TypedUnary) (of : Typed) → Fits of → Fits (e.Unary op of)
-  unary_case op of k = at_node (e.Unary op of) _ _ _ (typed.fold-Unary Value ℤ (node_value s) index_position op of) (typed.fold-Unary ℕ ℕ (node_width d) index_width op of) (typed.para-Unary Bool Bool (node_typed d) index_typed op of)
+  unary_case op of k = at_node (e.Unary op of) _ _ _ (typed.fold-Unary Value ℤ (node_value s) index_position op of)
+      (typed.fold-Unary ℕ ℕ (node_width d) index_width op of) (typed.para-Unary Bool Bool (node_typed d) index_typed op of)
       (λ ok. unary_fits op (value_in s of) (width_of d of) (k ok))
 
   binary_case : (op : TypedBinary) (left right : Typed) → Fits left → Fits right → Fits (e.Binary op left right)
-  binary_case op left right k1 k2 = at_node (e.Binary op left right) _ _ _ (typed.fold-Binary Value ℤ (node_value s) index_position op left right) (typed.fold-Binary ℕ ℕ (node_width d) index_width op left right) (typed.para-Binary Bool Bool (node_typed d) index_typed op left right)
+  binary_case op left right k1 k2 = at_node (e.Binary op left right) _ _ _ (typed.fold-Binary Value ℤ (node_value s) index_position op left right)
+      (typed.fold-Binary ℕ ℕ (node_width d) index_width op left right) (typed.para-Binary Bool Bool (node_typed d) index_typed op left right)
       (λ ok.
       let both : (is_typed d left && is_typed d right) ≡ true = left_true (is_typed d left && is_typed d right) (is_shift op || same_width d left right) ok in
       binary_fits op (value_in s left) (value_in s right) (width_of d right) (width_of d left)
@@ -146,7 +156,8 @@ module _ (d : Design) (s : State) (h : IsStateOf d s) where
       (right_true (is_typed d left && is_typed d right) (is_shift op || same_width d left right) ok))
 
   join : (high low : Typed) → Fits high → Fits low → Fits (e.Join high low)
-  join high low k1 k2 = at_node (e.Join high low) _ _ _ (typed.fold-Join Value ℤ (node_value s) index_position high low) (typed.fold-Join ℕ ℕ (node_width d) index_width high low) (typed.para-Join Bool Bool (node_typed d) index_typed high low)
+  join high low k1 k2 = at_node (e.Join high low) _ _ _ (typed.fold-Join Value ℤ (node_value s) index_position high low)
+      (typed.fold-Join ℕ ℕ (node_width d) index_width high low) (typed.para-Join Bool Bool (node_typed d) index_typed high low)
       (λ ok.
       let both : (is_typed d high && is_typed d low) ≡ true = left_true (is_typed d high && is_typed d low) _ ok in
       let a : HasWidth (width_of d high) (value_in s high) = k1 (left_true (is_typed d high) (is_typed d low) both) in
@@ -154,7 +165,8 @@ module _ (d : Design) (s : State) (h : IsStateOf d s) where
       (rw (a.0, b.0) refl, rw b.0 (concat_fit (width_of d high) (width_of d low) (value_in s high).number (value_in s low).number a.1 b.1)))
 
   repeats : (count : ℕ) (of : Typed) → Fits of → Fits (e.Repeat count of)
-  repeats count of k = at_node (e.Repeat count of) _ _ _ (typed.fold-Repeat Value ℤ (node_value s) index_position count of) (typed.fold-Repeat ℕ ℕ (node_width d) index_width count of) (typed.para-Repeat Bool Bool (node_typed d) index_typed count of)
+  repeats count of k = at_node (e.Repeat count of) _ _ _ (typed.fold-Repeat Value ℤ (node_value s) index_position count of)
+      (typed.fold-Repeat ℕ ℕ (node_width d) index_width count of) (typed.para-Repeat Bool Bool (node_typed d) index_typed count of)
       (λ ok.
       let a : HasWidth (width_of d of) (value_in s of) = k (left_true (is_typed d of) _ ok) in
       (ap (λ m. count * m) a.0, rw a.0 (repeated_fits (width_of d of) (value_in s of).number count a.1)))
@@ -164,7 +176,8 @@ module _ (d : Design) (s : State) (h : IsStateOf d s) where
   pick false x y w p q = q
 
   choose : (test left right : Typed) → Fits test → Fits left → Fits right → Fits (e.Choose test left right)
-  choose test left right k0 k1 k2 = at_node (e.Choose test left right) _ _ _ (typed.fold-Choose Value ℤ (node_value s) index_position test left right) (typed.fold-Choose ℕ ℕ (node_width d) index_width test left right) (typed.para-Choose Bool Bool (node_typed d) index_typed test left right)
+  choose test left right k0 k1 k2 = at_node (e.Choose test left right) _ _ _ (typed.fold-Choose Value ℤ (node_value s) index_position test left right)
+      (typed.fold-Choose ℕ ℕ (node_width d) index_width test left right) (typed.para-Choose Bool Bool (node_typed d) index_typed test left right)
       (λ ok.
       let front : Bool = is_typed d test && width_of d test == 1 in
       let three : (front && is_typed d left && is_typed d right)

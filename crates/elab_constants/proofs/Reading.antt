@@ -30,7 +30,8 @@ pub three_give : (t a b : Read) (x y z : Reading) → Reads t x → Reads a y �
     → Gives (λ (p : SizedTerm × (SizedTerm × SizedTerm)). IsSized t.meaning p.0 × (IsSized a.meaning p.1.0 × IsSized b.meaning p.1.1))
     (either_wrong t.wrong (either_wrong a.wrong b.wrong)) (both x (both y z))
 three_give t a b x y z g h k =
-    gives_both (IsSized t.meaning) (λ (p : SizedTerm × SizedTerm). IsSized a.meaning p.0 × IsSized b.meaning p.1) t.wrong (either_wrong a.wrong b.wrong) x (both y z) g
+    gives_both (IsSized t.meaning) (λ (p : SizedTerm × SizedTerm). IsSized a.meaning p.0 × IsSized b.meaning p.1) t.wrong (either_wrong a.wrong b.wrong) x
+    (both y z) g
     (two_give a b y z h k)
 
 -- ---- nothing is wrong
@@ -123,11 +124,13 @@ three_are : (t a b : Read) (x y z : Reading) (arms : Result Both ConstantFault) 
 three_are t a b x y z arms all r e f g ht ha hb =
     subst (Gives (AreThree t a b) (wrong_of_three t a b)) (ap (both x) (sym e) ∙ sym f ∙ g) (three_give t a b x y z ht ha hb)
 
-pub choice_fails : (env : Environment) (t a b : Read) (x y z : Reading) (arms : Result Both ConstantFault) (all : Result Three ConstantFault) (f : ConstantFault)
+pub choice_fails : (env : Environment) (t a b : Read) (x y z : Reading) (arms : Result Both ConstantFault) (all : Result Three ConstantFault)
+    (f : ConstantFault)
     → arms ≡ both y z → all ≡ both x arms → all ≡ Err f → Reads t x → Reads a y → Reads b z → Reads (node env (o.Choose t a b)) (Err f)
 choice_fails env t a b x y z arms all f e g h ht ha hb = three_are t a b x y z arms all (Err f) e g h ht ha hb
 
-pub choice_reads : (env : Environment) (t a b : Read) (x y z : Reading) (arms : Result Both ConstantFault) (all : Result Three ConstantFault) (p : Three) (r : SizedTerm)
+pub choice_reads : (env : Environment) (t a b : Read) (x y z : Reading) (arms : Result Both ConstantFault) (all : Result Three ConstantFault) (p : Three)
+    (r : SizedTerm)
     → arms ≡ both y z → all ≡ both x arms → all ≡ Ok p → Reads t x → Reads a y → Reads b z
     → ((l m n : Meaning) → IsSized l p.0 → IsSized m p.1.0 → IsSized n p.1.1 → IsSized (chosen l m n) r) → Reads (node env (o.Choose t a b)) (Ok r)
 choice_reads env t a b x y z arms all p r e g h ht ha hb make = by_ok (three_are t a b x y z arms all (Ok p) e g h ht ha hb)
@@ -187,14 +190,16 @@ same_first v r wide f h =
     (or_false (c.name || v.name)) (or_swap c.select v.select (is_low r)) refl
     ∙ widen f (c.name || v.name) ((c.select || is_low r) || v.select) (c.wide || v.wide) wide h
 
-pub repeat_fails : (env : Environment) (r : Read) (rs : List Read) (x : Result ℕ ConstantFault) (y : Parts) (all : Result (ℕ × Joined) ConstantFault) (f : ConstantFault)
+pub repeat_fails : (env : Environment) (r : Read) (rs : List Read) (x : Result ℕ ConstantFault) (y : Parts) (all : Result (ℕ × Joined) ConstantFault)
+    (f : ConstantFault)
     → all ≡ both x y → all ≡ Err f → Gives (IsCount r.meaning) (count_wrong r) x → Gathers rs y → Reads (node env (o.Repeat r rs)) (Err f)
 repeat_fails env r rs x y all f e g h k =
     fault_moves (either_wrong (count_wrong r) (any_wrong rs)) (node env (o.Repeat r rs)).wrong f (same_first (any_wrong rs) r _)
     (subst (Gives (λ (p : ℕ × Joined). IsCount r.meaning p.0 × IsJoined (meanings rs) p.1) (either_wrong (count_wrong r) (any_wrong rs))) (sym e ∙ g)
     (gives_both (IsCount r.meaning) (IsJoined (meanings rs)) (count_wrong r) (any_wrong rs) x y h k))
 
-pub repeat_reads : (env : Environment) (r : Read) (rs : List Read) (x : Result ℕ ConstantFault) (y : Parts) (all : Result (ℕ × Joined) ConstantFault) (p : ℕ × Joined) (z : Reading)
+pub repeat_reads : (env : Environment) (r : Read) (rs : List Read) (x : Result ℕ ConstantFault) (y : Parts) (all : Result (ℕ × Joined) ConstantFault)
+    (p : ℕ × Joined) (z : Reading)
     → all ≡ both x y → all ≡ Ok p → Gives (IsCount r.meaning) (count_wrong r) x → Gathers rs y
     → (IsCount r.meaning p.0 → IsJoined (meanings rs) p.1 → first_wrong (either_wrong (count_wrong r) (any_wrong rs)) ≡ None
     → Reads (node env (o.Repeat r rs)) z)

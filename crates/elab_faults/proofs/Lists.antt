@@ -1,5 +1,6 @@
 -- The flaws of several ranges and expressions.
-use Rattle.std.proofs.Common.{◌≡◌, ◌∙◌, sym, ap, refl, subst, ℕ, ◌+◌, ◌<◌, Bool, true, false, cond, ◌||◌, List, [], ◌∷◌, ◌++◌, length, take, get_or, map, Option, Some, None, Result, Ok, Err}
+use Rattle.std.proofs.Common.{◌≡◌, ◌∙◌, sym, ap, refl, subst, ℕ, ◌+◌, ◌<◌, Bool, true, false, cond, ◌||◌, List, [], ◌∷◌, ◌++◌, length, take, get_or, map}
+use Rattle.std.proofs.Common.{Option, Some, None, Result, Ok, Err}
 use Rattle.std.specs.List.{list_any, flat_map, filter_map}
 use Rattle.std.proofs.lemmas.List.{map-append, take_more}
 use Rattle.std.proofs.lemmas.List.Concat.{flat_map-append}
@@ -99,7 +100,8 @@ step-start known regs i r a lt is h =
     (sym (ap flaws_in (map-append (want known) xs ys) ∙ in-append (map (want known) xs) (map (want known) ys))) h)
 
 -- the memory that a reg may be
-or_none : (known : Names) (r : RangeExpr) (w : Flaws) (a : Result Bool RangeFault) → Finds (λ x. x ≡ is_past (words known r)) w a → Finds (Large known (r ∷ [])) w a
+or_none : (known : Names) (r : RangeExpr) (w : Flaws) (a : Result Bool RangeFault) → Finds (λ x. x ≡ is_past (words known r)) w a
+    → Finds (Large known (r ∷ [])) w a
 or_none known r w (Ok b) h = (h.0, h.1 ∙ sym (or_false (is_past (words known r))))
 or_none known r w (Err f) h = h
 

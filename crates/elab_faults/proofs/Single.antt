@@ -1,5 +1,6 @@
 -- The flaws of one range, and of one expression.
-use Rattle.std.proofs.Common.{◌≡◌, ◌∙◌, sym, ap, refl, subst, ℕ, ◌-◌, Bool, true, false, cond, nat_lt, ◌||◌, ◌&&◌, List, [], ◌∷◌, Option, Some, None, Result, Ok, Err}
+use Rattle.std.proofs.Common.{◌≡◌, ◌∙◌, sym, ap, refl, subst, ℕ, ◌-◌, Bool, true, false, cond, nat_lt, ◌||◌, ◌&&◌, List, [], ◌∷◌, Option, Some, None, Result}
+use Rattle.std.proofs.Common.{Ok, Err}
 use Rattle.std.specs.List.{list_any}
 use Rattle.vlog_tree.specs.declared.expression.Expr.{Expr}
 use Rattle.vlog_tree.specs.declared.expression.RangeExpr.{RangeExpr}
@@ -107,7 +108,8 @@ expr-first known e =
 pub expr-ok : (known : Names) (e : Expr) → first_wrong (read (constants known) e).wrong ≡ None → first_flaw (flaws_in (want known e ∷ [])) ≡ None
 expr-ok known e h = expr-first known e ∙ ap (option_of of_constant) h
 
-pub expr-err : (known : Names) (e : Expr) (f : ConstantFault) → IsFault (read (constants known) e).wrong f → IsFlaw (flaws_in (want known e ∷ [])) (of_constant f)
+pub expr-err : (known : Names) (e : Expr) (f : ConstantFault) → IsFault (read (constants known) e).wrong f
+    → IsFlaw (flaws_in (want known e ∷ [])) (of_constant f)
 expr-err known e reading.NoMemory h = tt
 expr-err known e reading.NotConstant h = expr-first known e ∙ ap (option_of of_constant) h
 expr-err known e reading.BadSelect h = expr-first known e ∙ ap (option_of of_constant) h

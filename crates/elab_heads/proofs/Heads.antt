@@ -39,12 +39,14 @@ Is known e n = genvar_value known e ≡ Some n
 abbrev pub within : List Frame → List ℕ → ℤ → Names
 within fs name n = constants_at (with_genvar name n fs)
 
-all-finds : (known : Names) (from : Expr) (y z : Wanted) (a : Result ℤ RangeFault) (b : Result Bool RangeFault) (c : Result ℤ RangeFault) (Q : Bool → Type 0) (R : ℤ → Type 0)
+all-finds : (known : Names) (from : Expr) (y z : Wanted) (a : Result ℤ RangeFault) (b : Result Bool RangeFault) (c : Result ℤ RangeFault) (Q : Bool
+    → Type 0) (R : ℤ → Type 0)
     → Finds (Is known from) (flaws_in (want known from ∷ [])) a → Finds Q (flaws_in (y ∷ [])) b → Finds R (flaws_in (z ∷ [])) c
     → Finds (λ (p : ℤ × (Bool × ℤ)). Is known from p.0 × (Q p.1.0 × R p.1.1)) (flaws_in (want known from ∷ y ∷ z ∷ [])) (both a (both b c))
 all-finds known from y z a b c Q R h k l =
     finds_same _ _ _ (both a (both b c)) (three (want known from) y z)
-    (finds_both (Is known from) (λ (p : Bool × ℤ). Q p.0 × R p.1) (flaws_in (want known from ∷ [])) (both_flaws (flaws_in (y ∷ [])) (flaws_in (z ∷ []))) a (both b c) h
+    (finds_both (Is known from) (λ (p : Bool × ℤ). Q p.0 × R p.1) (flaws_in (want known from ∷ [])) (both_flaws (flaws_in (y ∷ [])) (flaws_in (z ∷ []))) a
+    (both b c) h
     (finds_both Q R (flaws_in (y ∷ [])) (flaws_in (z ∷ [])) b c k l))
 
 no_value : (known : Names) (from : Expr) (f : RangeFault) → first_flaw (flaws_in (want known from ∷ [])) ≡ Some f → or_zero (genvar_value known from) ≡ pos 0

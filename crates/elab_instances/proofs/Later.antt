@@ -1,5 +1,6 @@
 -- The rules on instances.
-use Rattle.std.proofs.Common.{◌≡◌, ◌∙◌, sym, ap, refl, subst, ℕ, Bool, true, false, cond, ◌||◌, List, [], ◌∷◌, ◌++◌, map, append-nil, Option, Some, None, Result, Ok, Err}
+use Rattle.std.proofs.Common.{◌≡◌, ◌∙◌, sym, ap, refl, subst, ℕ, Bool, true, false, cond, ◌||◌, List, [], ◌∷◌, ◌++◌, map, append-nil, Option, Some, None}
+use Rattle.std.proofs.Common.{Result, Ok, Err}
 use Rattle.cov_types.specs.declared.place.Place.{Place}
 use Rattle.vlog_tree.specs.declared.item.Conns.{Conns}
 use Rattle.vlog_tree.specs.declared.item.Instance.{Instance}
@@ -39,7 +40,8 @@ abbrev by : Bool → Bool → Bool → Option ScopeRule
 by u b r = cond u (Some unknown_module) (cond b (Some bad_override) (cond r (Some recursive) None))
 
 -- what refuses instances in whose values nothing is wrong
-later : (design : List Module) (here : Here) (at : At) (p : Place) (ns : List (List ℕ)) (of : List ℕ) (params : Conns) (made : List Instance) (found : Option (ℕ × Module))
+later : (design : List Module) (here : Here) (at : At) (p : Place) (ns : List (List ℕ)) (of : List ℕ) (params : Conns) (made : List Instance)
+    (found : Option (ℕ × Module))
     → NotTwice design (made_at here at p ns of params made) → first_flaw (flaws_in (map (want (names_here here at)) (expressions params))) ≡ None
     → module_named design of ≡ found
     → refusal_at design (made_at here at p ns of params made)

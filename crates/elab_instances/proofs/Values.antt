@@ -12,15 +12,18 @@ use Rattle.elab_faults.specs.Flaws.{first_flaw, flaws_in, wrong_in, IsFlaw, of_c
 use Rattle.elab_faults.proofs.Flaws.{first}
 use Rattle.elab_faults.proofs.Single.{or_false}
 
-names-wrong : (known : Names) (es : List Expr) → list_any (λ w. w.name) (map wrong_in (map (want known) es)) ≡ (any_wrong (map (read (constants known)) es)).name
+names-wrong : (known : Names) (es : List Expr) → list_any (λ w. w.name) (map wrong_in (map (want known) es))
+    ≡ (any_wrong (map (read (constants known)) es)).name
 names-wrong known [] = refl
 names-wrong known (e ∷ es) = ap (λ b. (read (constants known) e).wrong.name || b) (names-wrong known es)
 
-selects-wrong : (known : Names) (es : List Expr) → list_any (λ w. w.select) (map wrong_in (map (want known) es)) ≡ (any_wrong (map (read (constants known)) es)).select
+selects-wrong : (known : Names) (es : List Expr) → list_any (λ w. w.select) (map wrong_in (map (want known) es))
+    ≡ (any_wrong (map (read (constants known)) es)).select
 selects-wrong known [] = refl
 selects-wrong known (e ∷ es) = ap (λ b. (read (constants known) e).wrong.select || b) (selects-wrong known es)
 
-sizes-wrong : (known : Names) (es : List Expr) → list_any (λ w. w.wide) (map wrong_in (map (want known) es)) ≡ (any_wrong (map (read (constants known)) es)).wide
+sizes-wrong : (known : Names) (es : List Expr) → list_any (λ w. w.wide) (map wrong_in (map (want known) es))
+    ≡ (any_wrong (map (read (constants known)) es)).wide
 sizes-wrong known [] = refl
 sizes-wrong known (e ∷ es) = ap (λ b. (read (constants known) e).wrong.wide || b) (sizes-wrong known es)
 

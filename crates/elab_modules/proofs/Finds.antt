@@ -45,7 +45,8 @@ pub rowed : (files : List SourceFile) (ms : List Module) (t : ModuleTable) (n : 
     → Rowed files ms n row
 rowed files ms t n row h e = at_row files ms n row (slice_get ms n) refl (subst (IsRowAt files (slice_get ms n)) (sym e) (h.rows n))
 
-pub get-some : (files seen : List SourceFile) (ms : List Module) (t : ModuleTable) (n : ℕ) (row : ModuleRow) (o : Option Module) → IsTable files ms t → seen ≡ files
+pub get-some : (files seen : List SourceFile) (ms : List Module) (t : ModuleTable) (n : ℕ) (row : ModuleRow) (o : Option Module) → IsTable files ms t
+    → seen ≡ files
     → Some row ≡ slice_get t.rows n → o ≡ module_at seen row.file row.index → o ≡ slice_get ms n
 get-some files seen ms t n row o h same e is =
     let r = rowed files ms t n row h e in

@@ -1,5 +1,6 @@
 -- Marks of modules that are entered and left.
-use Rattle.std.proofs.Common.{◌≡◌, ◌∙◌, sym, ap, refl, subst, ℕ, zero, suc, ◌+◌, ◌<◌, ◌≤◌, Bool, true, false, cond, ◌||◌, List, [], ◌∷◌, ◌++◌, length, replicate, Option, Some, None, arith}
+use Rattle.std.proofs.Common.{◌≡◌, ◌∙◌, sym, ap, refl, subst, ℕ, zero, suc, ◌+◌, ◌<◌, ◌≤◌, Bool, true, false, cond, ◌||◌, List, [], ◌∷◌, ◌++◌, length}
+use Rattle.std.proofs.Common.{replicate, Option, Some, None, arith}
 use Rattle.std.specs.Prelude.{slice_get}
 use Rattle.std.specs.List.{list_any}
 use Rattle.std.specs.Str.{bytes_eq}
@@ -29,7 +30,8 @@ within-more : (above : List (List ℕ)) (name q : List ℕ) → is_in q (above +
 within-more above name q = list_any-append (bytes_eq q) above (name ∷ []) ∙ ap (λ b. is_in q above || b) (or_false (bytes_eq q name))
 
 -- the module that has a number by its name
-the-module : (design : List Module) (q name : List ℕ) (n : ℕ) (m k : Module) → module_named design q ≡ Some (n, m) → module_named design name ≡ Some (n, k) → m ≡ k
+the-module : (design : List Module) (q name : List ℕ) (n : ℕ) (m k : Module) → module_named design q ≡ Some (n, m) → module_named design name ≡ Some (n, k)
+    → m ≡ k
 the-module design q name n m k e f =
     let a = named-at 0 design q (n, m) e in
     let b = named-at 0 design name (n, k) f in
@@ -70,7 +72,8 @@ enters design above name n m old new h e same others k x f = elim (cases_eq k n)
       ∙ ap (λ b. is_in x.name above || b) (same_name m.name) ∙ or_true (is_in x.name above)))
   | inr differ ↦
       others k differ ∙ h k x f
-      ∙ ap Some (sym (within-more above m.name x.name ∙ ap (λ b. is_in x.name above || b) (other-name design name n k m x e f differ _ refl) ∙ or_false (is_in x.name above)))
+      ∙ ap Some (sym (within-more above m.name x.name ∙ ap (λ b. is_in x.name above || b) (other-name design name n k m x e f differ _ refl)
+      ∙ or_false (is_in x.name above)))
 ]
 
 pub leaves : (design : List Module) (above : List (List ℕ)) (name : List ℕ) (n : ℕ) (m : Module) (old new : OpenModules)
@@ -84,7 +87,8 @@ leaves design above name n m old new h e out same others k x f = elim (cases_eq 
       ∙ ap Some (sym (ap (λ (y : Module). is_in y.name above) x_is ∙ out))
   | inr differ ↦
       others k differ ∙ h k x f
-      ∙ ap Some (within-more above m.name x.name ∙ ap (λ b. is_in x.name above || b) (other-name design name n k m x e f differ _ refl) ∙ or_false (is_in x.name above))
+      ∙ ap Some (within-more above m.name x.name ∙ ap (λ b. is_in x.name above || b) (other-name design name n k m x e f differ _ refl)
+      ∙ or_false (is_in x.name above))
 ]
 
 get-replicate : (count n : ℕ) → n < count → slice_get (replicate count false) n ≡ Some false

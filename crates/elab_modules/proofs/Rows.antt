@@ -1,5 +1,6 @@
 -- One row more in the table of modules.
-use Rattle.std.proofs.Common.{◌≡◌, ◌∙◌, sym, ap, refl, subst, ℕ, zero, suc, ◌+◌, ◌<◌, Bool, true, false, not, cond, List, [], ◌∷◌, ◌++◌, length, take, drop, get_or, Option, Some, None, Result, Ok, Err, is_some, append_assoc, append-nil, arith}
+use Rattle.std.proofs.Common.{◌≡◌, ◌∙◌, sym, ap, refl, subst, ℕ, zero, suc, ◌+◌, ◌<◌, Bool, true, false, not, cond, List, [], ◌∷◌, ◌++◌, length, take, drop}
+use Rattle.std.proofs.Common.{get_or, Option, Some, None, Result, Ok, Err, is_some, append_assoc, append-nil, arith}
 use Rattle.std.specs.Prelude.{slice_get}
 use Rattle.std.specs.Option.{option_or}
 use Rattle.std.specs.Str.{bytes_eq}
@@ -92,9 +93,11 @@ second-further ms more (fault.NoTop p) h = λ rest found. ap (λ l. top_fault (s
 second-further ms more (fault.NotConstant p) h = λ rest found. ap (λ l. top_fault (second_name [] l) found) (append_assoc ms more rest) ∙ h (more ++ rest) found
 second-further ms more (fault.BadSelect p) h = λ rest found. ap (λ l. top_fault (second_name [] l) found) (append_assoc ms more rest) ∙ h (more ++ rest) found
 second-further ms more (fault.BadRange p) h = λ rest found. ap (λ l. top_fault (second_name [] l) found) (append_assoc ms more rest) ∙ h (more ++ rest) found
-second-further ms more (fault.WidthPast128 p) h = λ rest found. ap (λ l. top_fault (second_name [] l) found) (append_assoc ms more rest) ∙ h (more ++ rest) found
+second-further ms more (fault.WidthPast128 p) h = λ rest found. ap (λ l. top_fault (second_name [] l) found) (append_assoc ms more rest)
+    ∙ h (more ++ rest) found
 second-further ms more (fault.BadGenvar p) h = λ rest found. ap (λ l. top_fault (second_name [] l) found) (append_assoc ms more rest) ∙ h (more ++ rest) found
-second-further ms more (fault.UnknownModule p) h = λ rest found. ap (λ l. top_fault (second_name [] l) found) (append_assoc ms more rest) ∙ h (more ++ rest) found
+second-further ms more (fault.UnknownModule p) h = λ rest found. ap (λ l. top_fault (second_name [] l) found) (append_assoc ms more rest)
+    ∙ h (more ++ rest) found
 second-further ms more (fault.BadOverride p) h = λ rest found. ap (λ l. top_fault (second_name [] l) found) (append_assoc ms more rest) ∙ h (more ++ rest) found
 second-further ms more (fault.Recursive p) h = λ rest found. ap (λ l. top_fault (second_name [] l) found) (append_assoc ms more rest) ∙ h (more ++ rest) found
 second-further ms more (fault.Limit l) h = λ rest found. ap (λ l. top_fault (second_name [] l) found) (append_assoc ms more rest) ∙ h (more ++ rest) found
@@ -155,7 +158,8 @@ pub file-fails : (files : List SourceFile) (i : ℕ) (f : SourceFile) (fault : E
     → IsSecond (modules (take i files) ++ f.modules) fault → IsSecond (modules files) fault
 file-fails files i f fault lt e h =
     subst (λ l. IsSecond l fault)
-    (ap (λ l. l ++ modules (drop (i + 1) files)) (ap (λ l. modules (take i files) ++ l) (sym (append-nil f.modules)) ∙ sym (flat_map-append of_file (take i files) (f ∷ [])))
+    (ap (λ l. l ++ modules (drop (i + 1) files)) (ap (λ l. modules (take i files) ++ l) (sym (append-nil f.modules))
+    ∙ sym (flat_map-append of_file (take i files) (f ∷ [])))
     ∙ sym (flat_map-append of_file (take i files ++ f ∷ []) (drop (i + 1) files))
     ∙ ap (λ l. modules (l ++ drop (i + 1) files)) (one-more files i f lt e) ∙ ap modules (take-append-drop (i + 1) files))
     (second-further (modules (take i files) ++ f.modules) (modules (drop (i + 1) files)) fault h)

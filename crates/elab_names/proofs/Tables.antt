@@ -1,5 +1,6 @@
 -- Tables of declared names and of constants.
-use Rattle.std.proofs.Common.{◌≡◌, ◌∙◌, sym, ap, refl, subst, ℕ, ◌+◌, ◌<◌, Bool, true, false, ◌||◌, cond, List, [], ◌∷◌, ◌++◌, length, take, get_or, map, Option, Some, None, is_some}
+use Rattle.std.proofs.Common.{◌≡◌, ◌∙◌, sym, ap, refl, subst, ℕ, ◌+◌, ◌<◌, Bool, true, false, ◌||◌, cond, List, [], ◌∷◌, ◌++◌, length, take, get_or, map}
+use Rattle.std.proofs.Common.{Option, Some, None, is_some}
 use Rattle.std.proofs.lemmas.List.{take_more, length-map}
 use Rattle.std.proofs.lemmas.List.Folds.{find-append}
 use Rattle.std.specs.List.{find, list_any}
@@ -24,13 +25,15 @@ next {X} xs i x lt is = take_more xs i x lt ∙ ap (λ (y : X). take i xs ++ y �
 abbrev kind_in : Option DeclaredName → Option NameKind
 kind_in = option_of (λ (d : DeclaredName). d.kind)
 
-kind-or : (a : Option DeclaredName) (b : Bool) (d : DeclaredName) → option_or (kind_in a) (cond b (Some d.kind) None) ≡ kind_in (option_or a (cond b (Some d) None))
+kind-or : (a : Option DeclaredName) (b : Bool) (d : DeclaredName)
+    → option_or (kind_in a) (cond b (Some d.kind) None) ≡ kind_in (option_or a (cond b (Some d) None))
 kind-or (Some x) b d = refl
 kind-or None true d = refl
 kind-or None false d = refl
 
 -- one declared name more
-pub tabled : (names : List DeclaredName) (old new : NameTable NameKind) (d : DeclaredName) (name : List ℕ) (k : NameKind) → name ≡ d.name → k ≡ d.kind → IsTableOf names old
+pub tabled : (names : List DeclaredName) (old new : NameTable NameKind) (d : DeclaredName) (name : List ℕ) (k : NameKind) → name ≡ d.name → k ≡ d.kind
+    → IsTableOf names old
     → ((q : List ℕ) → value_of new q ≡ option_or (value_of old q) (only name k q)) → IsTableOf (names ++ d ∷ []) new
 tabled names old new d name k named kinded h put q =
     put q ∙ ap (λ (x : Option NameKind). option_or x (only name k q)) (h q)
@@ -40,7 +43,8 @@ tabled names old new d name k named kinded h put q =
     ∙ ap kind_in (sym (find-append (λ (e : DeclaredName). bytes_eq q e.name) names (d ∷ [])))
 
 find-seen : (q : List ℕ) (ds : List Declared)
-    → kind_in (find (λ (e : DeclaredName). bytes_eq q e.name) (map seen ds)) ≡ option_of (λ (d : Declared). kind_seen d.kind) (find (λ (d : Declared). bytes_eq q d.name) ds)
+    → kind_in (find (λ (e : DeclaredName). bytes_eq q e.name) (map seen ds))
+    ≡ option_of (λ (d : Declared). kind_seen d.kind) (find (λ (d : Declared). bytes_eq q d.name) ds)
 find-seen q [] = refl
 find-seen q (d ∷ ds) =
     elim (bytes_eq q d.name) as (λ b. kind_in (cond b (Some (seen d)) (find (λ (e : DeclaredName). bytes_eq q e.name) (map seen ds)))
@@ -78,16 +82,19 @@ known-more f old new c name v n d g put is named value = record {
   known = λ q.
       subst (λ (a : Option Constant). IsValueIn a (value_of new.known q)) (sym (find-append (λ (e : Constant). bytes_eq q e.name) f.known (c ∷ [])))
       (subst (IsValueIn (option_or (find (λ (e : Constant). bytes_eq q e.name) f.known) (cond (bytes_eq q c.name) (Some c) None))) (sym (put q))
-      (subst (λ (n : List ℕ). IsValueIn (option_or (find (λ (e : Constant). bytes_eq q e.name) f.known) (cond (bytes_eq q c.name) (Some c) None)) (option_or (value_of old.known q) (only n v q))) named
+      (subst (λ (n : List ℕ). IsValueIn (option_or (find (λ (e : Constant). bytes_eq q e.name) f.known) (cond (bytes_eq q c.name) (Some c) None))
+      (option_or (value_of old.known q) (only n v q))) named
       (value-or (find (λ (e : Constant). bytes_eq q e.name) f.known) (value_of old.known q) (bytes_eq q c.name) c v (is.known q) value)));
 }
 
-any-found : (q : List ℕ) (ds : List Declared) → is_some (option_of (λ (d : Declared). kind_seen d.kind) (find (λ (d : Declared). bytes_eq q d.name) ds)) ≡ is_in q (map (λ (d : Declared). d.name) ds)
+any-found : (q : List ℕ) (ds : List Declared) → is_some (option_of (λ (d : Declared). kind_seen d.kind) (find (λ (d : Declared). bytes_eq q d.name) ds))
+    ≡ is_in q (map (λ (d : Declared). d.name) ds)
 any-found q [] = refl
 any-found q (d ∷ ds) =
     elim (bytes_eq q d.name) as (λ b. is_some (option_of (λ (d : Declared). kind_seen d.kind) (cond b (Some d) (find (λ (d : Declared). bytes_eq q d.name) ds)))
     ≡ (b || is_in q (map (λ (d : Declared). d.name) ds))) [ true ↦ refl | false ↦ any-found q ds ]
 
 -- whether a scope declares a name
-pub declares-is : (f : Frame) (s : ScopeNames) (q : List ℕ) → IsFrame f s → is_some (value_of s.declared q) ≡ is_in q (map (λ (d : Declared). d.name) f.declared)
+pub declares-is : (f : Frame) (s : ScopeNames) (q : List ℕ) → IsFrame f s
+    → is_some (value_of s.declared q) ≡ is_in q (map (λ (d : Declared). d.name) f.declared)
 declares-is f s q is = ap is_some (is.declared q) ∙ any-found q f.declared

@@ -25,4 +25,5 @@ block_seen name = record { name = name; kind = kind.Other }
 
 -- the table has the first kind of each of these names
 abbrev pub IsTableOf : List DeclaredName → NameTable NameKind → Type 0
-IsTableOf names table = (name : List ℕ) → value_of table name ≡ option_of (λ (d : DeclaredName). d.kind) (find (λ (d : DeclaredName). bytes_eq name d.name) names)
+IsTableOf names table = (name : List ℕ) → value_of table name
+    ≡ option_of (λ (d : DeclaredName). d.kind) (find (λ (d : DeclaredName). bytes_eq name d.name) names)

@@ -1,5 +1,6 @@
 -- One value of an instance more.
-use Rattle.std.proofs.Common.{◌≡◌, ◌∙◌, sym, ap, refl, subst, ℕ, ◌+◌, ◌<◌, Bool, true, false, ◌||◌, cond, List, [], ◌∷◌, ◌++◌, length, take, get_or, map, ◌≤◌, Option, Some, None, Result, Ok, Err, Bor, arith}
+use Rattle.std.proofs.Common.{◌≡◌, ◌∙◌, sym, ap, refl, subst, ℕ, ◌+◌, ◌<◌, Bool, true, false, ◌||◌, cond, List, [], ◌∷◌, ◌++◌, length, take, get_or, map, ◌≤◌}
+use Rattle.std.proofs.Common.{Option, Some, None, Result, Ok, Err, Bor, arith}
 use Rattle.std.specs.Prelude.{slice_get}
 use Rattle.std.specs.List.{find, filter_map}
 use Rattle.std.specs.Option.{option_or, option_copied}
@@ -55,7 +56,8 @@ stored before old new name m t h k put q =
 
 -- ---- where nothing is wrong
 
-pub gives_moves : {A : Type 0} (P Q : A → Type 0) (w : Wrong) (r : Result A ConstantFault) → (first_wrong w ≡ None → (a : A) → P a → Q a) → Gives P w r → Gives Q w r
+pub gives_moves : {A : Type 0} (P Q : A → Type 0) (w : Wrong) (r : Result A ConstantFault) → (first_wrong w ≡ None → (a : A) → P a → Q a) → Gives P w r
+    → Gives Q w r
 gives_moves P Q w (Ok a) f h = (h.0, f h.0 a h.1)
 gives_moves P Q w (Err fault.NoMemory) f h = h
 gives_moves P Q w (Err fault.NotConstant) f h = h
@@ -101,7 +103,8 @@ stores before name w r so_far value given t after is_given is_value h k f =
     gives_stored (AreGiven (before ++ given_at (Some name) r.meaning)) (either_wrong w r.wrong) after (first_of_both w r.wrong None None a.0 b.0)
     (f before r.meaning a.1 b.1)
 
-pub at_some : (xs : List (List ℕ)) (i : ℕ) (r : Option (Bor (List ℕ))) (x : Bor (List ℕ)) (name : List ℕ) → option_copied r ≡ slice_get xs i → r ≡ Some x → name ≡ x.now
+pub at_some : (xs : List (List ℕ)) (i : ℕ) (r : Option (Bor (List ℕ))) (x : Bor (List ℕ)) (name : List ℕ) → option_copied r ≡ slice_get xs i → r ≡ Some x
+    → name ≡ x.now
     → Some name ≡ slice_get xs i
 at_some xs i r x name h is same = ap (λ (n : List ℕ). Some n) same ∙ sym (ap option_copied is) ∙ h
 
@@ -138,14 +141,18 @@ module _ (known : Names) where
   wrong-more es e = ap any_wrong (map-append rd es (e ∷ [])) ∙ any_wrong_more (map rd es) (rd e)
 
   in_order-step : (ns : List (List ℕ)) (es : List Expr) (e : Expr) (after : SoFar)
-      → Gives (AreGiven (given_in_order known ns es ++ given_at (slice_get ns (length es)) (rd e).meaning)) (either_wrong (any_wrong (map rd es)) (rd e).wrong) after
+      → Gives (AreGiven (given_in_order known ns es
+      ++ given_at (slice_get ns (length es)) (rd e).meaning)) (either_wrong (any_wrong (map rd es)) (rd e).wrong) after
       → Gives (AreGiven (given_in_order known ns (es ++ e ∷ []))) (any_wrong (map rd (es ++ e ∷ []))) after
   in_order-step ns es e after h =
       subst (λ (w : Wrong). Gives (AreGiven (given_in_order known ns (es ++ e ∷ []))) w after) (sym (wrong-more es e))
-      (gives_moves (AreGiven (given_in_order known ns es ++ given_at (slice_get ns (length es)) (rd e).meaning)) (AreGiven (given_in_order known ns (es ++ e ∷ []))) _ after
+      (gives_moves (AreGiven (given_in_order known ns es ++ given_at (slice_get ns (length es)) (rd e).meaning)) (AreGiven (given_in_order known ns (es
+      ++ e ∷ []))) _ after
       (λ none g is. subst (λ (gs : List Given). AreGiven gs g)
-      (ap (λ (gs : List Given). given_in_order known ns es ++ gs) (sym (given_right (slice_get ns (length es)) e (right (any_wrong (map rd es)) (rd e).wrong none)))
-      ∙ sym (ap (filter_map (given_of known)) (in_order-more ns es e) ∙ filter_map-append (given_of known) (in_order ns es) (pair_at (slice_get ns (length es)) e)))
+      (ap (λ (gs : List Given). given_in_order known ns es
+      ++ gs) (sym (given_right (slice_get ns (length es)) e (right (any_wrong (map rd es)) (rd e).wrong none)))
+      ∙ sym (ap (filter_map (given_of known)) (in_order-more ns es e)
+      ∙ filter_map-append (given_of known) (in_order ns es) (pair_at (slice_get ns (length es)) e)))
       is) h)
 
   -- one value in order more
@@ -158,7 +165,8 @@ module _ (known : Names) where
       let at : length (take i es) ≡ i = length-take-le i es (omega arith) in
       subst (λ (l : List Expr). Gives (AreGiven (given_in_order known ns l)) (any_wrong (map rd l)) after) (sym (next es i e lt is))
       (in_order-step ns (take i es) e after
-      (subst (λ (n : ℕ). Gives (AreGiven (given_in_order known ns (take i es) ++ given_at (slice_get ns n) (rd e).meaning)) (either_wrong (any_wrong (map rd (take i es))) (rd e).wrong) after)
+      (subst (λ (n : ℕ). Gives (AreGiven (given_in_order known ns (take i es)
+      ++ given_at (slice_get ns n) (rd e).meaning)) (either_wrong (any_wrong (map rd (take i es))) (rd e).wrong) after)
       (sym at) (f (given_in_order known ns (take i es)) (any_wrong (map rd (take i es))) (rd e) h k)))
 
   abbrev values_in : List NamedConn → List Expr
@@ -179,9 +187,11 @@ module _ (known : Names) where
       let all : List NamedConn = take i cs in
       subst (λ (l : List NamedConn). Gives (AreGiven (given_by_name known l)) (any_wrong (map rd (values_in l))) after) (sym (next cs i c lt is))
       (subst (λ (w : Wrong). Gives (AreGiven (given_by_name known (all ++ c ∷ []))) w after)
-      (sym (ap (λ (es : List Expr). any_wrong (map rd es)) (filter_map-append (λ (d : NamedConn). d.value) all (c ∷ [])) ∙ any_wrong-append (values_in all) (values_in (c ∷ []))))
+      (sym (ap (λ (es : List Expr). any_wrong (map rd es)) (filter_map-append (λ (d : NamedConn). d.value) all (c ∷ []))
+      ∙ any_wrong-append (values_in all) (values_in (c ∷ []))))
       (subst (λ (gs : List Given). Gives (AreGiven gs) (either_wrong (any_wrong (map rd (values_in all))) (any_wrong (map rd (values_in (c ∷ []))))) after)
-      (sym (ap (filter_map (given_of known)) (filter_map-append with_value all (c ∷ [])) ∙ filter_map-append (given_of known) (filter_map with_value all) (filter_map with_value (c ∷ []))))
+      (sym (ap (filter_map (given_of known)) (filter_map-append with_value all (c ∷ []))
+      ∙ filter_map-append (given_of known) (filter_map with_value all) (filter_map with_value (c ∷ []))))
       (f (given_by_name known all) (any_wrong (map rd (values_in all))) h)))
 
   -- no value in order yet
@@ -202,9 +212,11 @@ module _ (known : Names) where
       let values : values_in (v ∷ []) ≡ e ∷ [] = ap (λ (o : Option Expr). filter_map (λ (x : Option Expr). x) (o ∷ [])) is in
       subst (λ (x : Wrong). Gives (AreGiven (before ++ given_by_name known (v ∷ []))) (either_wrong w x) after)
       (sym (ap (λ (es : List Expr). any_wrong (map rd es)) values ∙ single (rd e)))
-      (gives_moves (AreGiven (before ++ given_at (Some name) (rd e).meaning)) (AreGiven (before ++ given_by_name known (v ∷ []))) (either_wrong w (rd e).wrong) after
+      (gives_moves (AreGiven (before ++ given_at (Some name) (rd e).meaning)) (AreGiven (before
+      ++ given_by_name known (v ∷ []))) (either_wrong w (rd e).wrong) after
       (λ none g are. subst (λ (gs : List Given). AreGiven (before ++ gs) g)
-      (ap (λ (n : List ℕ). given_at (Some n) (rd e).meaning) named ∙ sym (ap (filter_map (given_of known)) pairs ∙ given_right (Some v.name) e (right w (rd e).wrong none)))
+      (ap (λ (n : List ℕ). given_at (Some n) (rd e).meaning) named ∙ sym (ap (filter_map (given_of known)) pairs
+      ∙ given_right (Some v.name) e (right w (rd e).wrong none)))
       are) h)
 
   abbrev GivesAll : List (List ℕ) → Conns → SoFar → Type 0
@@ -218,17 +230,22 @@ module _ (known : Names) where
   pub of_named : (ns : List (List ℕ)) (v : Conns) (cs slice : List NamedConn) (r : SoFar) → v ≡ conns.Named cs → slice ≡ cs
       → Gives (AreGiven (given_by_name known slice)) (any_wrong (map rd (values_in slice))) r → GivesAll ns v r
   of_named ns v cs slice r is same h =
-      subst (λ (x : Conns). GivesAll ns x r) (sym is) (subst (λ (l : List NamedConn). Gives (AreGiven (given_by_name known l)) (any_wrong (map rd (values_in l))) r) same h)
+      subst (λ (x : Conns). GivesAll ns x r) (sym is)
+      (subst (λ (l : List NamedConn). Gives (AreGiven (given_by_name known l)) (any_wrong (map rd (values_in l))) r) same h)
 
   -- all values are read
   pub all_in_order : (ns : List (List ℕ)) (es : List Expr) (i : ℕ) (r : SoFar) → length es ≤ i
-      → Gives (AreGiven (given_in_order known ns (take i es))) (any_wrong (map rd (take i es))) r → Gives (AreGiven (given_in_order known ns es)) (any_wrong (map rd es)) r
+      → Gives (AreGiven (given_in_order known ns (take i es))) (any_wrong (map rd (take i es))) r
+      → Gives (AreGiven (given_in_order known ns es)) (any_wrong (map rd es)) r
   all_in_order ns es i r past h = subst (λ (l : List Expr). Gives (AreGiven (given_in_order known ns l)) (any_wrong (map rd l)) r) (take_all i es past) h
 
   pub all_by_name : (cs : List NamedConn) (i : ℕ) (r : SoFar) → length cs ≤ i
-      → Gives (AreGiven (given_by_name known (take i cs))) (any_wrong (map rd (values_in (take i cs)))) r → Gives (AreGiven (given_by_name known cs)) (any_wrong (map rd (values_in cs))) r
-  all_by_name cs i r past h = subst (λ (l : List NamedConn). Gives (AreGiven (given_by_name known l)) (any_wrong (map rd (values_in l))) r) (take_all i cs past) h
+      → Gives (AreGiven (given_by_name known (take i cs))) (any_wrong (map rd (values_in (take i cs)))) r
+      → Gives (AreGiven (given_by_name known cs)) (any_wrong (map rd (values_in cs))) r
+  all_by_name cs i r past h = subst (λ (l : List NamedConn). Gives (AreGiven (given_by_name known l)) (any_wrong (map rd (values_in l))) r)
+      (take_all i cs past) h
 
 -- a constant is read where the names stand
-pub read_where : (env : Environment) (known : Names) (e : Expr) (r : Reading) → env ≡ constants known → Reads (read env e) r → Reads (read (constants known) e) r
+pub read_where : (env : Environment) (known : Names) (e : Expr) (r : Reading) → env ≡ constants known → Reads (read env e) r
+    → Reads (read (constants known) e) r
 read_where env known e r is h = subst (λ (x : Environment). Reads (read x e) r) is h

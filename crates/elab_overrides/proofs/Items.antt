@@ -24,7 +24,8 @@ flat_map-map f (a ∷ items) = ap (λ ns. f a ++ ns) (flat_map-map f items)
 
 says-Generate : (items : List Item) → says (i.Generate items) ≡ flat_map parameters_of items
 says-Generate items =
-    ap says (sym (i.rolls-Generate items)) ∙ fold-roll-ItemKind Names Names Names Names kind_parameters (λ arm. []) (λ body. []) (λ a. a.what) (o.Generate items)
+    ap says (sym (i.rolls-Generate items))
+    ∙ fold-roll-ItemKind Names Names Names Names kind_parameters (λ arm. []) (λ body. []) (λ a. a.what) (o.Generate items)
     ∙ flat_map-map parameters_of items
 
 -- the names of a region are those of its items

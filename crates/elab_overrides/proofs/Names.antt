@@ -1,5 +1,6 @@
 -- Names in tables, and names that stand twice.
-use Rattle.std.proofs.Common.{◌≡◌, ◌∙◌, sym, ap, refl, subst, ℕ, ◌+◌, ◌<◌, length, take, get_or, Bool, true, false, not, ◌||◌, cond, List, [], ◌∷◌, ◌++◌, map, Option, Some, None, is_some}
+use Rattle.std.proofs.Common.{◌≡◌, ◌∙◌, sym, ap, refl, subst, ℕ, ◌+◌, ◌<◌, length, take, get_or, Bool, true, false, not, ◌||◌, cond, List, [], ◌∷◌, ◌++◌, map}
+use Rattle.std.proofs.Common.{Option, Some, None, is_some}
 use Rattle.std.proofs.lemmas.List.Folds.{list_any-append}
 use Rattle.std.proofs.lemmas.List.{map-append, take_more}
 use Rattle.std.proofs.lemmas.Cmp.{nat_list_eq_equiv}
@@ -65,7 +66,8 @@ bad-more names cs c =
     ap (λ b. b || has_twice (map (λ c. c.name) (cs ++ c ∷ []))) (any-more (λ c. not (is_in c.name names)) cs c)
     ∙ ap (λ ns. (list_any (λ c. not (is_in c.name names)) cs || not (is_in c.name names)) || has_twice ns) (map-append (λ (c : NamedConn). c.name) cs (c ∷ []))
     ∙ ap (λ b. (list_any (λ c. not (is_in c.name names)) cs || not (is_in c.name names)) || b) (twice-more (map (λ c. c.name) cs) c.name)
-    ∙ sym (four (list_any (λ c. not (is_in c.name names)) cs) (has_twice (map (λ c. c.name) cs)) (is_in c.name (map (λ c. c.name) cs)) (not (is_in c.name names)))
+    ∙ sym (four (list_any (λ c. not (is_in c.name names)) cs) (has_twice (map (λ c. c.name) cs)) (is_in c.name (map (λ c. c.name) cs))
+    (not (is_in c.name names)))
 
 -- the first values, and one more
 next : (vs : List NamedConn) (i : ℕ) (v : NamedConn) → i < length vs → v ≡ get_or vs i v → take (i + 1) vs ≡ take i vs ++ v ∷ []
@@ -79,7 +81,8 @@ pub seen-more : (vs : List NamedConn) (i : ℕ) (v : NamedConn) (name : List ℕ
     → AreAmong (names_in (take (i + 1) vs)) new
 seen-more vs i v name old new lt is named h put =
     subst (λ (ns : List (List ℕ)). AreAmong ns new)
-    (ap (λ (n : List ℕ). names_in (take i vs) ++ n ∷ []) named ∙ sym (ap names_in (next vs i v lt is) ∙ map-append (λ (c : NamedConn). c.name) (take i vs) (v ∷ [])))
+    (ap (λ (n : List ℕ). names_in (take i vs) ++ n ∷ []) named ∙ sym (ap names_in (next vs i v lt is)
+    ∙ map-append (λ (c : NamedConn). c.name) (take i vs) (v ∷ [])))
     (with_name (names_in (take i vs)) old new name h put)
 
 not_not : (a : Bool) → not (not a) ≡ a

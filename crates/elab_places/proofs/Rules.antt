@@ -8,7 +8,8 @@ use Rattle.vlog_tree.specs.declared.module.Module.{Module}
 use Rattle.elab_types.specs.declared.elab_fault.ElabFault.{ElabFault}
 use Rattle.elab_types.specs.declared.elab_fault.ElabFault.TheVariants as fault
 use Rattle.scope_meaning.specs.Standing.{Standing}
-use Rattle.scope_meaning.specs.ScopeRules.{ScopeRule, duplicate, not_constant, bad_select, bad_range, width_past_128, bad_genvar, unknown_module, bad_override, recursive}
+use Rattle.scope_meaning.specs.ScopeRules.{ScopeRule, duplicate, not_constant, bad_select, bad_range, width_past_128, bad_genvar, unknown_module, bad_override}
+use Rattle.scope_meaning.specs.ScopeRules.{recursive}
 use Rattle.scope_meaning.specs.ScopeRules.{refuses, refusal_at, first_of, memory_fault, has_large_memory}
 use Rattle.elab_ranges.specs.declared.fault.RangeFault.{RangeFault}
 use Rattle.elab_ranges.specs.declared.fault.RangeFault.TheVariants as range

@@ -1,5 +1,6 @@
 -- The flaws of what stands at a place, by its kind.
-use Rattle.std.proofs.Common.{◌≡◌, ◌∙◌, sym, ap, refl, subst, ℕ, Bool, true, false, cond, ◌||◌, List, [], ◌∷◌, ◌++◌, map, append-nil, append_assoc, Option, Some, None, Result, Ok, Err}
+use Rattle.std.proofs.Common.{◌≡◌, ◌∙◌, sym, ap, refl, subst, ℕ, Bool, true, false, cond, ◌||◌, List, [], ◌∷◌, ◌++◌, map, append-nil, append_assoc, Option}
+use Rattle.std.proofs.Common.{Some, None, Result, Ok, Err}
 use Rattle.std.specs.List.{list_any, flat_map, filter_map}
 use Rattle.std.proofs.lemmas.List.{map-append}
 use Rattle.std.proofs.lemmas.List.Concat.{flat_map-append}
@@ -70,7 +71,8 @@ regs-flaws here at p ns signed range regs =
     ∙ ap (λ es. map (want known) es ++ wo) (flat_map-append bounds v m)
     ∙ ap (λ ws. ws ++ wo) (map-append (want known) (flat_map bounds v) (flat_map bounds m))
     ∙ append_assoc wv wm wo in
-    ap (flaws_of known v m) (append-nil ((map (want known) (flat_map bounds (v ++ m) ++ o)) ++ []) ∙ append-nil (map (want known) (flat_map bounds (v ++ m) ++ o)) ∙ all)
+    ap (flaws_of known v m) (append-nil ((map (want known) (flat_map bounds (v ++ m) ++ o)) ++ [])
+    ∙ append-nil (map (want known) (flat_map bounds (v ++ m) ++ o)) ∙ all)
     ∙ ap (λ w. flaws_of known w m (wv ++ (wm ++ wo))) (sym (append-nil v))
     ∙ flaws-append known v [] [] m wv (wm ++ wo)
     ∙ ap (both_flaws (vector_flaws known v))

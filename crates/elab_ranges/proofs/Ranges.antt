@@ -62,7 +62,8 @@ hinders v f g (Err reading.NotConstant) (Ok (Some n)) h k = at_name _ _ _ _ (or_
 hinders v f g (Err reading.BadSelect) (Err reading.NoMemory) h k = tt
 hinders v f g (Err reading.BadSelect) (Err reading.NotConstant) h k = at_name _ _ _ _ (or_right f.wrong.name g.wrong.name k)
 hinders v f g (Err reading.BadSelect) (Err reading.BadSelect) h k = at_select _ _ _ _ (or_neither _ _ h.0 k.0) (or_left _ _ h.1)
-hinders v f g (Err reading.BadSelect) (Err reading.WidthPast128) h k = at_select _ _ _ _ (or_neither _ _ h.0 (ap (λ (z : Facts). z.wrong.name) k)) (or_left _ _ h.1)
+hinders v f g (Err reading.BadSelect) (Err reading.WidthPast128) h k = at_select _ _ _ _ (or_neither _ _ h.0 (ap (λ (z : Facts). z.wrong.name) k))
+    (or_left _ _ h.1)
 hinders v f g (Err reading.BadSelect) (Ok None) h k = at_select _ _ _ _ (or_neither _ _ h.0 (ap (λ (z : Facts). z.wrong.name) k)) (or_left _ _ h.1)
 hinders v f g (Err reading.BadSelect) (Ok (Some n)) h k = at_select _ _ _ _ (or_neither _ _ h.0 (ap (λ (z : Facts). z.wrong.name) k)) (or_left _ _ h.1)
 hinders v f g (Err reading.WidthPast128) (Err reading.NoMemory) h k = tt

@@ -63,7 +63,8 @@ step-text names name rows i r old new w f lt is wanted text first more =
     ∙ ap (open_text name) (ap (λ (b : Bool). kept names (take i rows) ++ cond b (seen_constant r ∷ []) []) wanted ∙ sym (kept-more names rows i r lt is))
 
 pub step-first : (names : List (List ℕ)) (rows : List ConstantRow) (i : ℕ) (r : ConstantRow) (w f new : Bool) → i < length rows
-    → r ≡ get_or rows i r → w ≡ is_in r.name names → f ≡ is_none (kept names (take i rows)) → new ≡ (f && not w) → new ≡ is_none (kept names (take (i + 1) rows))
+    → r ≡ get_or rows i r → w ≡ is_in r.name names → f ≡ is_none (kept names (take i rows)) → new ≡ (f && not w)
+    → new ≡ is_none (kept names (take (i + 1) rows))
 step-first names rows i r w f new lt is wanted first more =
     more ∙ ap (λ b. b && not w) first ∙ sym (none-more (kept names (take i rows)) (seen_constant r) w)
     ∙ ap is_none (ap (λ (b : Bool). kept names (take i rows) ++ cond b (seen_constant r ∷ []) []) wanted ∙ sym (kept-more names rows i r lt is))

@@ -12,10 +12,12 @@ use Rattle.flat_design.specs.InDesign.{AreItemsIn, AreArmsIn, items_typed}
 
 module _ (s : State) where
   pub first_item : (item : StepItem) (rest : List StepItem) → AreItemsIn s (item ∷ rest) → IsTypedIn s item.value
-  first_item item rest h = with_test s (λ d. items_typed d (item ∷ rest)) (λ d. is_typed d item.value) h (λ d ok. left_true (is_typed d item.value) (items_typed d rest) ok)
+  first_item item rest h = with_test s (λ d. items_typed d (item ∷ rest)) (λ d. is_typed d item.value) h
+      (λ d ok. left_true (is_typed d item.value) (items_typed d rest) ok)
 
   pub rest_items : (item : StepItem) (rest : List StepItem) → AreItemsIn s (item ∷ rest) → AreItemsIn s rest
-  rest_items item rest h = with_test s (λ d. items_typed d (item ∷ rest)) (λ d. items_typed d rest) h (λ d ok. right_true (is_typed d item.value) (items_typed d rest) ok)
+  rest_items item rest h = with_test s (λ d. items_typed d (item ∷ rest)) (λ d. items_typed d rest) h
+      (λ d ok. right_true (is_typed d item.value) (items_typed d rest) ok)
 
   pub first_arm : (arm : StepArm) (rest : List StepArm) → AreArmsIn s (arm ∷ rest) → AreItemsIn s arm.items
   first_arm arm rest h = with_test s (λ d. list_all (λ a. items_typed d a.items) (arm ∷ rest)) (λ d. items_typed d arm.items) h

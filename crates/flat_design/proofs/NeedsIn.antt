@@ -65,7 +65,8 @@ module _ (s : State) where
 
 all_formed : (d : Design) (k : ℕ) (xs : List Step) → All (λ x. IsTrue (is_step d k x)) xs → list_all (is_step d k) xs ≡ true
 all_formed d k [] h = refl
-all_formed d k (x ∷ xs) h = and_from (is_step d k x) (list_all (is_step d k) xs) (h 0 x (omega arith)) (all_formed d k xs (λ i e lt. h (suc i) e (omega (arith, lt))))
+all_formed d k (x ∷ xs) h = and_from (is_step d k x) (list_all (is_step d k) xs) (h 0 x (omega arith))
+    (all_formed d k xs (λ i e lt. h (suc i) e (omega (arith, lt))))
 
 process_is : (d : Design) (p : Process) → (v : IsValidDesign d) → (i : ℕ) → i < length d.processes → p ≡ slice_index_or d.processes i p
     → IsProcess d v.0.counters p
@@ -95,8 +96,11 @@ process_can d s e p valid of i lt is room =
 -- with just the room that it needs
 pub process_steps : (d : Design) (s : State) (p : Process) → IsValidDesign d → IsStateOf d s → (i : ℕ) → i < length d.processes
     → p ≡ slice_index_or d.processes i p → StepsIn s p.body
-process_steps d s p valid of i lt is =
-    (empty (room_of d p), process_can d s (empty (room_of d p)) p valid of i lt is (record { for_updates = omega arith; for_bytes = omega arith; for_counters = omega arith }))
+process_steps d s p valid of i lt is = (
+  empty (room_of d p),
+  process_can d s (empty (room_of d p)) p valid of i lt is
+      (record { for_updates = omega arith; for_bytes = omega arith; for_counters = omega arith }),
+)
 
 -- the room of one run of each of some processes
 abbrev pub rooms : Design → List Process → Room

@@ -62,11 +62,21 @@ module _ (d : Design) where
 
   pub room_left : (e : Effects) (xs ys : List Mention) → HasRoom e (room_for d (xs ++ ys)) → HasRoom e (room_for d xs)
   room_left e xs ys h = let f : Fits (room_for d xs) (room_for d (xs ++ ys)) = left_fits xs ys in
-      record { for_updates = omega (arith, h.for_updates, f.updates); for_bytes = omega (arith, h.for_bytes, f.bytes); for_counters = omega (arith, h.for_counters, f.counters) }
+      record {
+        for_updates = omega (arith, h.for_updates, f.updates);
+        for_bytes = omega (arith, h.for_bytes, f.bytes);
+        for_counters = omega
+            (arith, h.for_counters, f.counters);
+      }
 
   pub room_right : (e : Effects) (xs ys : List Mention) → HasRoom e (room_for d (xs ++ ys)) → HasRoom e (room_for d ys)
   room_right e xs ys h = let f : Fits (room_for d ys) (room_for d (xs ++ ys)) = right_fits xs ys in
-      record { for_updates = omega (arith, h.for_updates, f.updates); for_bytes = omega (arith, h.for_bytes, f.bytes); for_counters = omega (arith, h.for_counters, f.counters) }
+      record {
+        for_updates = omega (arith, h.for_updates, f.updates);
+        for_bytes = omega (arith, h.for_bytes, f.bytes);
+        for_counters = omega
+            (arith, h.for_counters, f.counters);
+      }
 
   pub within_left : (o : Outcome ℕ) (xs ys : List Mention) → IsWithin o (room_for d xs) → IsWithin o (room_for d (xs ++ ys))
   within_left o xs ys h = let f : Fits (room_for d xs) (room_for d (xs ++ ys)) = left_fits xs ys in
@@ -106,7 +116,14 @@ or_none true = refl
 or_none false = refl
 
 pub added_more : (e : Effects) (a b : Outcome ℕ) → added (added e a) b ≡ added e (joined a b)
-added_more e a b = rw (append_assoc e.updates a.updates b.updates, append_assoc e.text a.text b.text, append_assoc e.raised a.notes b.notes, or_more e.finished a.finished b.finished, or_more e.stopped a.stopped b.stopped) refl
+added_more e a b = rw (
+  append_assoc e.updates a.updates b.updates,
+  append_assoc e.text a.text b.text,
+  append_assoc e.raised a.notes b.notes,
+  or_more
+      e.finished a.finished b.finished,
+  or_more e.stopped a.stopped b.stopped,
+) refl
 
 pub added_none : (e : Effects) (s : State) → added e (unchanged s) ≡ e
 added_none e s = rw (append-nil e.updates, append-nil e.text, append-nil e.raised, or_none e.finished, or_none e.stopped) refl

@@ -126,14 +126,17 @@ module _ (s : State) (e : Effects) where
     counters = h.counters;
     of = h.of;
     variables = h.variables;
-    formed = and_from (is_step h.design h.counters x) true (left_true (is_step h.design h.counters x) (list_all (is_step h.design h.counters) xs) h.formed) refl;
-    room = subst (λ ms. HasRoom e (room_for h.design ms)) (sym (append-nil (mentions_in x))) (room_left h.design e (mentions_in x) (flat_map mentions_in xs) h.room);
+    formed = and_from (is_step h.design h.counters x) true (left_true (is_step h.design h.counters x) (list_all (is_step h.design h.counters) xs) h.formed)
+        refl;
+    room = subst (λ ms. HasRoom e (room_for h.design ms)) (sym (append-nil (mentions_in x)))
+        (room_left h.design e (mentions_in x) (flat_map mentions_in xs) h.room);
   }
 
   -- ---- if
 
   if_ok : (test : Typed) (left right : List Step) (h : CanRun s e (step.If test left right ∷ []))
-      → (is_typed h.design test && width_of h.design test == 1 && list_all (is_step h.design h.counters) left && list_all (is_step h.design h.counters) right) ≡ true
+      → (is_typed h.design test && width_of h.design test == 1 && list_all (is_step h.design h.counters) left && list_all (is_step h.design h.counters)
+      right) ≡ true
   if_ok test left right h = sym (if_formed h.design h.counters test left right) ∙ one_formed (step.If test left right) h
 
   if_room : (test : Typed) (left right : List Step) (h : CanRun s e (step.If test left right ∷ []))
@@ -194,7 +197,8 @@ module _ (s : State) (e : Effects) where
 
   case_front : (on : Typed) (arms : List StepArm) (rest : List Step) (h : CanRun s e (step.Case on arms rest ∷ []))
       → (is_typed h.design on && list_all (arm_at h.design h.counters (width_of h.design on)) arms) ≡ true
-  case_front on arms rest h = left_true (is_typed h.design on && list_all (arm_at h.design h.counters (width_of h.design on)) arms) (list_all (is_step h.design h.counters) rest) (case_ok on arms rest h)
+  case_front on arms rest h = left_true (is_typed h.design on && list_all (arm_at h.design h.counters (width_of h.design on)) arms)
+      (list_all (is_step h.design h.counters) rest) (case_ok on arms rest h)
 
   case_arms : (on : Typed) (arms : List StepArm) (rest : List Step) (h : CanRun s e (step.Case on arms rest ∷ []))
       → list_all (arm_at h.design h.counters (width_of h.design on)) arms ≡ true
@@ -212,7 +216,8 @@ module _ (s : State) (e : Effects) where
   items_of d w (item ∷ items) h =
       let here : is_item d w item ≡ true = left_true (is_item d w item) (list_all (is_item d w) items) h in
       and_from (is_typed d item.value) (items_typed d items)
-      (left_true (is_typed d item.value) (width_of d item.value == w) (left_true (is_typed d item.value && width_of d item.value == w) (nat_lt item.mask (2 ^ w)) here))
+      (left_true (is_typed d item.value) (width_of d item.value == w)
+      (left_true (is_typed d item.value && width_of d item.value == w) (nat_lt item.mask (2 ^ w)) here))
       (items_of d w items (right_true (is_item d w item) (list_all (is_item d w) items) h))
 
   arms_of : (d : Design) (k w : ℕ) (arms : List StepArm) → list_all (arm_at d k w) arms ≡ true → list_all (λ arm. items_typed d arm.items) arms ≡ true
@@ -224,7 +229,8 @@ module _ (s : State) (e : Effects) where
       (arms_of d k w arms (right_true (arm_at d k w arm) (list_all (arm_at d k w) arms) h))
 
   pub case_items : (on : Typed) (arms : List StepArm) (rest : List Step) → CanRun s e (step.Case on arms rest ∷ []) → AreArmsIn s arms
-  case_items on arms rest h = record { design = h.design; of = h.of; holds = arms_of h.design h.counters (width_of h.design on) arms (case_arms on arms rest h) }
+  case_items on arms rest h = record
+      { design = h.design; of = h.of; holds = arms_of h.design h.counters (width_of h.design on) arms (case_arms on arms rest h) }
 
   pub case_rest : (on : Typed) (arms : List StepArm) (rest : List Step) → CanRun s e (step.Case on arms rest ∷ []) → CanRun s e rest
   case_rest on arms rest h = record {
@@ -232,7 +238,8 @@ module _ (s : State) (e : Effects) where
     counters = h.counters;
     of = h.of;
     variables = h.variables;
-    formed = right_true (is_typed h.design on && list_all (arm_at h.design h.counters (width_of h.design on)) arms) (list_all (is_step h.design h.counters) rest) (case_ok on arms rest h);
+    formed = right_true (is_typed h.design on && list_all (arm_at h.design h.counters (width_of h.design on)) arms)
+        (list_all (is_step h.design h.counters) rest) (case_ok on arms rest h);
     room = room_right h.design e (flat_map arm_mentions_in arms) (flat_map mentions_in rest) (case_room on arms rest h);
   }
 
@@ -247,7 +254,8 @@ module _ (s : State) (e : Effects) where
             (subst (λ ms. HasRoom e (room_for d ms)) (arm_mentions_is arm) (room_left d e (arm_mentions_in arm) (flat_map arm_mentions_in arms) room)),
       )
   at_arm d k w (arm ∷ arms) (suc i) none lt ok room =
-      at_arm d k w arms i none (omega (arith, lt)) (right_true (arm_at d k w arm) (list_all (arm_at d k w) arms) ok) (room_right d e (arm_mentions_in arm) (flat_map arm_mentions_in arms) room)
+      at_arm d k w arms i none (omega (arith, lt)) (right_true (arm_at d k w arm) (list_all (arm_at d k w) arms) ok)
+      (room_right d e (arm_mentions_in arm) (flat_map arm_mentions_in arms) room)
 
   pub case_arm : (on : Typed) (arms : List StepArm) (rest : List Step) (i : ℕ) (none : StepArm) → i < length arms → CanRun s e (step.Case on arms rest ∷ [])
       → CanRun s e (slice_index_or arms i none).body
@@ -255,7 +263,8 @@ module _ (s : State) (e : Effects) where
       let d : Design = h.design in
       let k : (list_all (is_step d h.counters) (slice_index_or arms i none).body
       ≡ true) × HasRoom e (room_for d (flat_map mentions_in (slice_index_or arms i none).body))
-      = at_arm d h.counters (width_of d on) arms i none lt (case_arms on arms rest h) (room_left d e (flat_map arm_mentions_in arms) (flat_map mentions_in rest) (case_room on arms rest h)) in
+      = at_arm d h.counters (width_of d on) arms i none lt (case_arms on arms rest h)
+      (room_left d e (flat_map arm_mentions_in arms) (flat_map mentions_in rest) (case_room on arms rest h)) in
       record { design = d; counters = h.counters; of = h.of; variables = h.variables; formed = k.0; room = k.1 }
 
   -- ---- assignments
@@ -291,10 +300,12 @@ module _ (s : State) (e : Effects) where
   room_of_targets d targets value h = omega (arith, h.for_updates, target_count targets value)
 
   pub set_room : (targets : List Target) (value : Typed) → CanRun s e (step.Set targets value ∷ []) → length e.updates + length targets ≤ e.room.updates
-  set_room targets value h = room_of_targets h.design targets value (subst (λ ms. HasRoom e (room_for h.design ms)) (set_mentions targets value) (one_room (step.Set targets value) h))
+  set_room targets value h = room_of_targets h.design targets value
+      (subst (λ ms. HasRoom e (room_for h.design ms)) (set_mentions targets value) (one_room (step.Set targets value) h))
 
   pub later_room : (targets : List Target) (value : Typed) → CanRun s e (step.Later targets value ∷ []) → length e.updates + length targets ≤ e.room.updates
-  later_room targets value h = room_of_targets h.design targets value (subst (λ ms. HasRoom e (room_for h.design ms)) (later_mentions targets value) (one_room (step.Later targets value) h))
+  later_room targets value h = room_of_targets h.design targets value
+      (subst (λ ms. HasRoom e (room_for h.design ms)) (later_mentions targets value) (one_room (step.Later targets value) h))
 
   -- ---- the other steps
 

@@ -51,13 +51,16 @@ module _ (s : State) where
   word_at v at h = with_test s (λ d. is_target d (target.Word v at)) (λ d. is_index d at) h (λ d ok. right_true (is_var d v) (is_index d at) ok)
 
   pub part_var : (v w : ℕ) (at : Index) → IsTargetIn s (target.Part v w at) → v < length s
-  part_var v w at h = plain_in h.design s v h.of (left_true (is_plain_var h.design v) (is_width w) (left_true (is_plain_var h.design v && is_width w) (is_index h.design at) h.holds))
+  part_var v w at h = plain_in h.design s v h.of
+      (left_true (is_plain_var h.design v) (is_width w) (left_true (is_plain_var h.design v && is_width w) (is_index h.design at) h.holds))
 
   pub part_width : (v w : ℕ) (at : Index) → IsTargetIn s (target.Part v w at) → (1 ≤ w) × (w ≤ 128)
-  part_width v w at h = wide w (right_true (is_plain_var h.design v) (is_width w) (left_true (is_plain_var h.design v && is_width w) (is_index h.design at) h.holds))
+  part_width v w at h = wide w (right_true (is_plain_var h.design v) (is_width w)
+      (left_true (is_plain_var h.design v && is_width w) (is_index h.design at) h.holds))
 
   pub part_index : (v w : ℕ) (at : Index) → IsTargetIn s (target.Part v w at) → IsIndexIn s at
-  part_index v w at h = with_test s (λ d. is_target d (target.Part v w at)) (λ d. is_index d at) h (λ d ok. right_true (is_plain_var d v && is_width w) (is_index d at) ok)
+  part_index v w at h = with_test s (λ d. is_target d (target.Part v w at)) (λ d. is_index d at) h
+      (λ d ok. right_true (is_plain_var d v && is_width w) (is_index d at) ok)
 
   word_part_front : (d : Design) (v : ℕ) (word : Index) (w : ℕ) (at : Index) → is_target d (target.WordPart v word w at) ≡ true
       → (is_var d v && is_index d word && is_width w) ≡ true
@@ -65,7 +68,8 @@ module _ (s : State) where
 
   pub word_part_var : (v : ℕ) (word : Index) (w : ℕ) (at : Index) → IsTargetIn s (target.WordPart v word w at) → v < length s
   word_part_var v word w at h = var_in h.design s v h.of
-      (left_true (is_var h.design v) (is_index h.design word) (left_true (is_var h.design v && is_index h.design word) (is_width w) (word_part_front h.design v word w at h.holds)))
+      (left_true (is_var h.design v) (is_index h.design word)
+      (left_true (is_var h.design v && is_index h.design word) (is_width w) (word_part_front h.design v word w at h.holds)))
 
   pub word_part_width : (v : ℕ) (word : Index) (w : ℕ) (at : Index) → IsTargetIn s (target.WordPart v word w at) → (1 ≤ w) × (w ≤ 128)
   word_part_width v word w at h = wide w (right_true (is_var h.design v && is_index h.design word) (is_width w) (word_part_front h.design v word w at h.holds))
@@ -88,7 +92,8 @@ module _ (s : State) where
   first_in t ts h = with_test s (λ d. list_all (is_target d) (t ∷ ts)) (λ d. is_target d t) h (λ d ok. left_true (is_target d t) (list_all (is_target d) ts) ok)
 
   pub rest_in : (t : Target) (ts : List Target) → AreTargetsIn s (t ∷ ts) → AreTargetsIn s ts
-  rest_in t ts h = with_test s (λ d. list_all (is_target d) (t ∷ ts)) (λ d. list_all (is_target d) ts) h (λ d ok. right_true (is_target d t) (list_all (is_target d) ts) ok)
+  rest_in t ts h = with_test s (λ d. list_all (is_target d) (t ∷ ts)) (λ d. list_all (is_target d) ts) h
+      (λ d ok. right_true (is_target d t) (list_all (is_target d) ts) ok)
 
 -- widths by the design are those by a state of it
 width_same : (d : Design) (s : State) (t : Target) → IsStateOf d s → target_width s t ≡ width_named d t

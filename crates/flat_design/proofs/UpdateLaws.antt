@@ -81,7 +81,8 @@ module _ (d : Design) (k : ℕ) where
       sym (steps.fold-Later Bool (ℕ → Bool) (step_formed d k) (arm_formed d) ts value) ∙ ok in
       from (step.Later ts value) s _ (equation.does-Later ts value s)
       (parts_here s ts (value_in s value).number hs
-      (left_true (list_all (is_target d) ts) (is_typed d value) (left_true (list_all (is_target d) ts && is_typed d value) (widths_named d ts == width_of d value) all)))
+      (left_true (list_all (is_target d) ts) (is_typed d value)
+      (left_true (list_all (is_target d) ts && is_typed d value) (widths_named d ts == width_of d value) all)))
 
   pick : (c : Bool) (left right : List Step) (s : State) → All Here (all_do left s).updates → All Here (all_do right s).updates
       → All Here (in_turn (if c then map does right else map does left) s).updates
@@ -122,7 +123,8 @@ module _ (d : Design) (k : ℕ) where
       let r : Bool = list_all (is_step d k) rest in
       let all : (is_typed d on && a && r) ≡ true = sym (case_formed d k on arms rest) ∙ ok in
       from (step.Case on arms rest) s _ (equation.does-Case on arms rest s)
-      (arms_stand w (value_in s on).number arms rest ha hr s hs (right_true (is_typed d on) a (left_true (is_typed d on && a) r all)) (right_true (is_typed d on && a) r all))
+      (arms_stand w (value_in s on).number arms rest ha hr s hs (right_true (is_typed d on) a (left_true (is_typed d on && a) r all))
+      (right_true (is_typed d on && a) r all))
 
   stands : (x : Step) → Stands x
   stands = step_induction Stands

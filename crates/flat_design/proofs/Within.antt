@@ -94,7 +94,8 @@ module _ (d : Design) (k : ℕ) (vars : All IsVariable d.vars) where
       → IsWithin (in_turn (chosen s n (map arm_acts arms) (map does rest)) s) (room_for d (flat_map arm_mentions_in arms ++ flat_map mentions_in rest))
   arms_within w n [] rest ha hr s hs oka okr = all_within rest hr s hs okr
   arms_within w n (arm ∷ arms) rest ha hr s hs oka okr =
-      by (list_any (is_match s n) arm.items) refl (arms_within w n arms rest ha.1 hr s hs (right_true (arm_at d k w arm) (list_all (arm_at d k w) arms) oka) okr)
+      by (list_any (is_match s n) arm.items) refl
+      (arms_within w n arms rest ha.1 hr s hs (right_true (arm_at d k w arm) (list_all (arm_at d k w) arms) oka) okr)
     where
       more : List Mention
       more = flat_map arm_mentions_in arms ++ flat_map mentions_in rest
@@ -115,7 +116,8 @@ module _ (d : Design) (k : ℕ) (vars : All IsVariable d.vars) where
           (all_within arm.body ha.0 s hs (right_true (list_all (is_item d w) arm.items) (list_all (is_step d k) arm.body) here))))))
       by false e there = subst (λ acts. IsWithin (in_turn acts s) (room_for d (flat_map arm_mentions_in (arm ∷ arms)
           ++ flat_map mentions_in rest))) (sym (chosen_next s n arm arms (map does rest) e))
-          (subst (λ ms. IsWithin (in_turn (chosen s n (map arm_acts arms) (map does rest)) s) (room_for d ms)) (sym (append_assoc (arm_mentions_in arm) (flat_map arm_mentions_in arms) (flat_map mentions_in rest)))
+          (subst (λ ms. IsWithin (in_turn (chosen s n (map arm_acts arms) (map does rest)) s) (room_for d ms))
+          (sym (append_assoc (arm_mentions_in arm) (flat_map arm_mentions_in arms) (flat_map mentions_in rest)))
           (within_right d (in_turn (chosen s n (map arm_acts arms) (map does rest)) s) (arm_mentions_in arm) more there))
 
   case_within : (on : Typed) (arms : List StepArm) (rest : List Step) → AllByRecursion (ArmHas Within) arms → AllByRecursion Within rest
@@ -127,13 +129,20 @@ module _ (d : Design) (k : ℕ) (vars : All IsVariable d.vars) where
       let ok' : (is_typed d on && a && r) ≡ true = sym (case_formed d k on arms rest) ∙ ok in
       from (step.Case on arms rest) s _ _ (equation.does-Case on arms rest s) (case_mentions on arms rest)
       (within_right d _ (expression on ∷ []) (flat_map arm_mentions_in arms ++ flat_map mentions_in rest)
-      (arms_within w (value_in s on).number arms rest ha hr s hs (right_true (is_typed d on) a (left_true (is_typed d on && a) r ok')) (right_true (is_typed d on && a) r ok')))
+      (arms_within w (value_in s on).number arms rest ha hr s hs (right_true (is_typed d on) a (left_true (is_typed d on && a) r ok'))
+      (right_true (is_typed d on && a) r ok')))
 
   pub within : (x : Step) → Within x
   within = step_induction Within
-      (λ targets value s hs ok. from (step.Set targets value) s _ _ (equation.does-Set targets value s) (set_mentions targets value) (nothing _ _ refl refl refl))
+      (λ targets value s hs ok. from (step.Set targets value) s _ _ (equation.does-Set targets value s) (set_mentions targets value)
+      (nothing _ _ refl refl refl))
       (λ targets value s hs ok. from (step.Later targets value) s _ _ (equation.does-Later targets value s) (later_mentions targets value)
-      (record { updates = omega (arith, length-parts_at s targets (value_in s value).number, target_count targets value); bytes = omega arith; counters = omega arith }))
+      (record {
+        updates = omega (arith, length-parts_at s targets (value_in s value).number, target_count targets value);
+        bytes = omega arith;
+        counters =
+            omega arith;
+      }))
       if_within
       case_within
       (λ pieces s hs ok. from (step.Show pieces) s _ _ (equation.does-Show pieces s) (show_mentions pieces)
@@ -145,7 +154,8 @@ module _ (d : Design) (k : ℕ) (vars : All IsVariable d.vars) where
       }))
       (λ s hs ok. from step.Finish s _ _ (equation.does-Finish s) refl (nothing _ _ refl refl refl))
       (λ s hs ok. from step.Stop s _ _ (equation.does-Stop s) refl (nothing _ _ refl refl refl))
-      (λ counter s hs ok. from (step.Count counter) s _ _ (equation.does-Count counter s) (count_mentions counter) (record { updates = omega arith; bytes = omega arith; counters = omega arith }))
+      (λ counter s hs ok. from (step.Count counter) s _ _ (equation.does-Count counter s) (count_mentions counter)
+      (record { updates = omega arith; bytes = omega arith; counters = omega arith }))
 
 -- after one step the rest can be run
 pub can_rest : (s : State) (e : Effects) (x : Step) (xs : List Step) → CanRun s e (x ∷ xs) → CanRun (does x s).state (added e (does x s)) xs

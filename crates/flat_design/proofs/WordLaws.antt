@@ -30,6 +30,7 @@ words_keep_states d s v w n h here small = record { as_many = length-set s v cha
 
     each : (u : ℕ) → u < length d.vars → AreWordsOf (var_of d u) (held (slice_set s v changed) u)
     each u lt = elim (cases_eq v u) [
-      | inl e ↦ subst (λ u. AreWordsOf (var_of d u) (held (slice_set s v changed) u)) e (subst (AreWordsOf (var_of d v)) (sym (get_or-set_same s v changed no_words here)) own)
+      | inl e ↦ subst (λ u. AreWordsOf (var_of d u) (held (slice_set s v changed) u)) e
+          (subst (AreWordsOf (var_of d v)) (sym (get_or-set_same s v changed no_words here)) own)
       | inr ne ↦ subst (AreWordsOf (var_of d u)) (sym (get_or-set_other s v u changed no_words (λ e. ne (sym e)))) (h.each u lt)
     ]

@@ -162,7 +162,8 @@ module _ (d : Design) (p : ℕ) (u : Uses) (uses : AreUsesOf d p u) where
   mixed_is k e a = least_same (IsMixedIn k u) (IsMixed d p) a (mixed_in k e) (mixed_back k e)
 
 pub none_mixed : (d : Design) (p v : ℕ) → length d.processes ≤ p → IsMixed d p v → ⊥
-none_mixed d p v le x = absurd (cc (ap (λ (process : Process). list_any (list_any (event_defers v)) (paths process.body)) (get_or_past d.processes p no_process le), x.deferred))
+none_mixed d p v le x = absurd
+    (cc (ap (λ (process : Process). list_any (list_any (event_defers v)) (paths process.body)) (get_or_past d.processes p no_process le), x.deferred))
 
 -- ---- a whole slice that was written goes back into its vector
 

@@ -74,12 +74,13 @@ module _ (d : Design) (watches : List Watch) (outputs : List Bool) (are : AreWat
       record {
         kinds = sym (ap is_clocked e);
         assigned = sym (uses.sets v) ∙ s;
-        seen = elim (either_of (get_or outputs v false) (seen_by_other (get_or watches v no_watch) p) (and_right (has_var u.sets v) (is_seen watches outputs p v) x)) [
-          | inl o ↦ inr (is_output d.outputs v (sym (flags v) ∙ o))
-          | inr o ↦ (let t : (q : ℕ) × (q ≢ p) × IsToucherBefore d (length d.processes) v q =
-              seen_by (IsToucherBefore d (length d.processes) v) (get_or watches v no_watch) p (are.each v (stands v s)) o in
-              inl (t.0, record { apart = t.1; kinds = t.2.is.kinds; touched = t.2.is.touched }))
-        ];
+        seen = elim (either_of (get_or outputs v false) (seen_by_other (get_or watches v no_watch) p)
+            (and_right (has_var u.sets v) (is_seen watches outputs p v) x)) [
+              | inl o ↦ inr (is_output d.outputs v (sym (flags v) ∙ o))
+              | inr o ↦ (let t : (q : ℕ) × (q ≢ p) × IsToucherBefore d (length d.processes) v q =
+                  seen_by (IsToucherBefore d (length d.processes) v) (get_or watches v no_watch) p (are.each v (stands v s)) o in
+                  inl (t.0, record { apart = t.1; kinds = t.2.is.kinds; touched = t.2.is.touched }))
+            ];
       }
   seen_in kind.Assign e v x = absurd x
   seen_in kind.Comb e v x = absurd x

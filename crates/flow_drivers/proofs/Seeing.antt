@@ -180,7 +180,8 @@ module _ (d : Design) (v : ℕ) (here : v < length d.vars) where
       let s : Span = get_or u.reads f.0 no_span in
       let i : IsSpanOf d.vars (get_or u.reads f.0 no_span) = uses.reads_in f.0 no_span f.1 in
       let e : (get_or u.reads f.0 no_span).var
-      ≡ v = eqb-true (get_or u.reads f.0 no_span).var v (and_left ((get_or u.reads f.0 no_span).var == v) (nat_lt (get_or u.reads f.0 no_span).place (get_or u.reads f.0 no_span).place_end) f.2) in
+      ≡ v = eqb-true (get_or u.reads f.0 no_span).var v
+      (and_left ((get_or u.reads f.0 no_span).var == v) (nat_lt (get_or u.reads f.0 no_span).place (get_or u.reads f.0 no_span).place_end) f.2) in
       let l : (get_or u.reads f.0 no_span).place < (get_or u.reads f.0 no_span).place_end = ltb-true (get_or u.reads f.0 no_span).place (get_or u.reads f.0 no_span).place_end (and_right ((get_or u.reads f.0 no_span).var == v) (nat_lt (get_or u.reads f.0 no_span).place (get_or u.reads f.0 no_span).place_end) f.2) in
       first p u uses (get_or u.reads f.0 no_span) f.0 no_span f.1 refl i e l
     where
@@ -197,7 +198,8 @@ module _ (d : Design) (v : ℕ) (here : v < length d.vars) where
           let inside : is_in s (record { var = s.var; word = s.word; place = s.place })
           ≡ true = is_within s s.word s.place (omega arith) i.some_word (omega arith) l in
           let has : has_bit u.reads (record { var = s.var; word = s.word; place = s.place }) ≡ true =
-          list_any_at (λ (x : Span). is_in x (record { var = s.var; word = s.word; place = s.place })) u.reads k t lt (subst (λ (x : Span). is_in x (record { var = s.var; word = s.word; place = s.place }) ≡ true) is inside) in
+          list_any_at (λ (x : Span). is_in x (record { var = s.var; word = s.word; place = s.place })) u.reads k t lt
+          (subst (λ (x : Span). is_in x (record { var = s.var; word = s.word; place = s.place }) ≡ true) is inside) in
           (record { var = s.var; word = s.word; place = s.place }, bit, e, sym (uses.reads (record { var = s.var; word = s.word; place = s.place }) bit) ∙ has)
 
   read_var : (p : ℕ) (u : Uses) → AreUsesOf d p u → (b : Bit) → IsBitOf d b → b.var ≡ v → IsTrue (reads_bit d p b) → has_read_var u.reads v ≡ true
@@ -225,7 +227,8 @@ module _ (d : Design) (v : ℕ) (here : v < length d.vars) where
 
   touches_if : (p : ℕ) (u : Uses) → AreUsesOf d p u → IsToucher d v p → touches u v ≡ true
   touches_if p u uses t = elim t.touched [
-    | inl x ↦ or_left (has_read_var u.reads v || has_var u.sets v) (has_var u.defers v) (or_left (has_read_var u.reads v) (has_var u.sets v) (read_var p u uses x.0 x.1 x.2 x.3))
+    | inl x ↦ or_left (has_read_var u.reads v || has_var u.sets v) (has_var u.defers v)
+        (or_left (has_read_var u.reads v) (has_var u.sets v) (read_var p u uses x.0 x.1 x.2 x.3))
     | inr x ↦ elim (either_of (sets_var d p v) (defers_var d p v) x) [
       | inl s ↦ or_left (has_read_var u.reads v || has_var u.sets v) (has_var u.defers v) (or_right (has_read_var u.reads v) (has_var u.sets v) (uses.sets v
           ∙ s))
@@ -248,7 +251,8 @@ module _ (d : Design) (v : ℕ) (here : v < length d.vars) where
   watched_next p u w uses k h = go (touches u v) refl
     where
       go : (b : Bool) → touches u v ≡ b → IsWatch (IsToucherBefore d (p + 1) v) (if b then with_process w p else w)
-      go true e = watch_with (IsToucherBefore d p v) (IsToucherBefore d (p + 1) v) w p (later p) (record { before = omega arith; is = touched_by p u uses k e }) (one_or_before p) h
+      go true e = watch_with (IsToucherBefore d p v) (IsToucherBefore d (p + 1) v) w p (later p)
+          (record { before = omega arith; is = touched_by p u uses k e }) (one_or_before p) h
       go false e = watch_same (IsToucherBefore d p v) (IsToucherBefore d (p + 1) v) w (later p)
           (λ q x. elim (one_or_before p q x) [
             | inl t ↦ t

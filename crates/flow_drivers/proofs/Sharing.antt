@@ -158,7 +158,8 @@ module _ (d : Design) (p : ℕ) (u : Uses) (lt : p < length d.processes) (uses :
     of_variable = x.of_variable;
     here = bit_in d.vars m.slots h.slots x.shared x.here;
     within = uses.drives x.shared x.here ∙ x.driven;
-    in_set = h.bits x.shared x.here ∙ held (λ (process : Process). asked_kinds (kind_of d p) process.kind && drives_of process.body x.shared) d.processes p x.other x.less (omega (arith, lt, x.less))
+    in_set = h.bits x.shared x.here ∙ held (λ (process : Process). asked_kinds (kind_of d p) process.kind && drives_of process.body x.shared) d.processes p
+        x.other x.less (omega (arith, lt, x.less))
         (and_from (asked_kinds (kind_of d p) (kind_of d x.other)) (drives d x.other x.shared) (sym (clashes (kind_of d p) (kind_of d x.other))
         ∙ x.kinds) x.by_other);
   }

@@ -73,8 +73,22 @@ pub met_either : (m : MarkSet) (u : Uses) (a b : Option ℕ) → IsLeastOf (HasM
     → IsLeastOf (HasMetEither m u) (lesser_of a b)
 met_either m u a b h k = least_same (λ v. HasMet m u.sets v ⊎ HasMet m u.defers v) (HasMetEither m u) (lesser_of a b)
     (λ v x. elim x [
-      | inl y ↦ record { common = y.common; of_variable = y.of_variable; here = y.here; within = or_left (has_bit u.sets y.common) (has_bit u.defers y.common) y.within; in_set = y.in_set }
-      | inr y ↦ record { common = y.common; of_variable = y.of_variable; here = y.here; within = or_right (has_bit u.sets y.common) (has_bit u.defers y.common) y.within; in_set = y.in_set }
+      | inl y ↦ record {
+        common = y.common;
+        of_variable = y.of_variable;
+        here = y.here;
+        within = or_left (has_bit u.sets y.common)
+            (has_bit u.defers y.common) y.within;
+        in_set = y.in_set;
+      }
+      | inr y ↦ record {
+        common = y.common;
+        of_variable = y.of_variable;
+        here = y.here;
+        within = or_right (has_bit u.sets y.common)
+            (has_bit u.defers y.common) y.within;
+        in_set = y.in_set;
+      }
     ])
     (λ v x. elim (either_of (has_bit u.sets x.common) (has_bit u.defers x.common) x.within) [
       | inl e ↦ inl (record { common = x.common; of_variable = x.of_variable; here = x.here; within = e; in_set = x.in_set })

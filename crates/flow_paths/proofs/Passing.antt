@@ -131,7 +131,8 @@ passes_both o m n w v e f x y = record {
           of_variable = z.of_variable;
           here = here z.bit z.here;
           is_left = and_left (has o.left z.bit) (not (w z.bit)) both;
-          of_kind = in_right (e z.bit) (not (w z.bit) && f z.bit) (and_both (not (w z.bit)) (f z.bit) (and_right (has o.left z.bit) (not (w z.bit)) both) z.of_kind);
+          of_kind = in_right (e z.bit) (not (w z.bit) && f z.bit)
+              (and_both (not (w z.bit)) (f z.bit) (and_right (has o.left z.bit) (not (w z.bit)) both) z.of_kind);
         }
 
     back : (u : ℕ) → IsUnwritten o.left (λ b. e b || (not (w b) && f b)) u → IsUnwritten o.left e u ⊎ IsUnwritten m.left f u
@@ -167,7 +168,8 @@ pub writes_next : {X : Type 0} (o p q : Walk) (f : X → Bit → Bool) (xs : Lis
     → Passes o p (λ b. list_any (λ x. f x b) (take i xs)) (λ b. false) → Passes p q (f x) (λ b. false)
     → Passes o q (λ b. list_any (λ x. f x b) (take (i + 1) xs)) (λ b. false)
 writes_next o p q f xs i x lt k h m =
-    passes_same o q (λ b. list_any (λ x. f x b) (take i xs) || f x b) (λ b. list_any (λ x. f x b) (take (i + 1) xs)) (λ b. not (list_any (λ x. f x b) (take i xs)) && false) (λ b. false)
+    passes_same o q (λ b. list_any (λ x. f x b) (take i xs) || f x b) (λ b. list_any (λ x. f x b) (take (i + 1) xs))
+    (λ b. not (list_any (λ x. f x b) (take i xs)) && false) (λ b. false)
     (λ b j. more_of (λ x. f x b) xs i x lt k) (λ b j. none (not (list_any (λ x. f x b) (take i xs))))
     (passes_both o p q (λ b. list_any (λ x. f x b) (take i xs)) (f x) (λ b. false) (λ b. false) h m)
   where

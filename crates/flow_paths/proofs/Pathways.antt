@@ -119,7 +119,8 @@ module _ (vars : List Var) (u : Uses) (steps : List Step) (o a : Walk) (fresh : 
         of_variable = z.of_variable;
         here = bit_of_vars vars a.left.slots filled_ready.left z.common (there z.common z.here);
         driven = z.within;
-        unwritten = not_true (always_steps steps z.common) (and_right (has a.left z.common) (not (always_steps steps z.common)) (sym (left z.common (there z.common z.here)) ∙ z.in_set));
+        unwritten = not_true (always_steps steps z.common)
+            (and_right (has a.left z.common) (not (always_steps steps z.common)) (sym (left z.common (there z.common z.here)) ∙ z.in_set));
       }
 
       kept_back : (v : ℕ) → IsKeptIn vars u steps v → HasMetEither f.left u v

@@ -40,7 +40,8 @@ pub assign_adds : (vars : List Var) (old mid new : List Span) (targets : List Ta
     → Adds vars mid new (λ b. list_any (λ t. meaning.is_in_any b (target_reads t)) targets)
     → Adds vars old new (λ b. meaning.is_in_any b (assign_reads targets value))
 assign_adds vars old mid new targets value x y = adds_same vars old new
-    (λ b. meaning.is_in_any b (reads_of value) || list_any (λ t. meaning.is_in_any b (target_reads t)) targets) (λ b. meaning.is_in_any b (assign_reads targets value))
+    (λ b. meaning.is_in_any b (reads_of value) || list_any (λ t. meaning.is_in_any b (target_reads t)) targets)
+    (λ b. meaning.is_in_any b (assign_reads targets value))
     (λ b. assign_bits b targets value)
     (adds_both vars old mid new (λ b. meaning.is_in_any b (reads_of value)) (λ b. list_any (λ t. meaning.is_in_any b (target_reads t)) targets) x y)
 
@@ -74,7 +75,8 @@ module _ (vars : List Var) (o n : Walk) (r : IsReady vars o) where
         (λ b h. a.bits b (bit_of_vars vars o.left.slots r.left b h) ∙ ap (λ k. k && names_bit b t) (sym (sym a.fixed ∙ f))) x;
     slots = ap (λ (m : MarkSet). m.slots) s;
     empty = subst IsEmpty (sym s) r.empty;
-    reads = subst (λ z. IsJoined o.early z (IsUnwritten o.left (λ b. false))) (sym e) (joined_none o.early (IsUnwritten o.left (λ b. false)) (λ v z. absurd (cc (z.of_kind))));
+    reads = subst (λ z. IsJoined o.early z (IsUnwritten o.left (λ b. false))) (sym e)
+        (joined_none o.early (IsUnwritten o.left (λ b. false)) (λ v z. absurd (cc (z.of_kind))));
   }
 
   pub target_passed : (t : Target) (aim : Aim) → IsAimOf vars t aim → aim.fixed ≡ false → Passes o o (λ b. surely_names b t) (λ b. false)

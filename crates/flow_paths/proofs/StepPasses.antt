@@ -56,10 +56,12 @@ show_passes o n pieces one is x = by_step o n one (step.Show pieces) (λ b. fals
     (λ b. show_always b pieces) (λ b. show_early b pieces) x
 
 pub finish_passes : (o : Walk) (one : Step) → one ≡ step.Finish → IsEmpty o.spare → Passes o o (always_step one) (early_step one)
-finish_passes o one is h = by_step o o one step.Finish (λ b. false) (λ b. false) is finish_always finish_early (passes_none o (λ b. false) (λ b. false) h (λ b. refl) (λ b. refl))
+finish_passes o one is h = by_step o o one step.Finish (λ b. false) (λ b. false) is finish_always finish_early
+    (passes_none o (λ b. false) (λ b. false) h (λ b. refl) (λ b. refl))
 
 pub stop_passes : (o : Walk) (one : Step) → one ≡ step.Stop → IsEmpty o.spare → Passes o o (always_step one) (early_step one)
-stop_passes o one is h = by_step o o one step.Stop (λ b. false) (λ b. false) is stop_always stop_early (passes_none o (λ b. false) (λ b. false) h (λ b. refl) (λ b. refl))
+stop_passes o one is h = by_step o o one step.Stop (λ b. false) (λ b. false) is stop_always stop_early
+    (passes_none o (λ b. false) (λ b. false) h (λ b. refl) (λ b. refl))
 
 pub count_passes : (o : Walk) (counter : ℕ) (one : Step) → one ≡ step.Count counter → IsEmpty o.spare → Passes o o (always_step one) (early_step one)
 count_passes o counter one is h = by_step o o one (step.Count counter) (λ b. false) (λ b. false) is (λ b. count_always b counter) (λ b. count_early b counter)
@@ -74,7 +76,8 @@ pub if_passes : (vars : List Var) (o m n p q r : Walk) (t s both : List Spot) (t
     → Branches n p s (always_steps right) (early_steps right)
     → q.left ≡ p.left → q.trail.items ≡ p.trail.items → q.early ≡ p.early → IsCommon p.spare q.spare t s both → TakesAll q r both
     → Passes o r (always_step one) (early_step one)
-if_passes vars o m n p q r t s both test left right one is ready x y z k l e c a = by_step o r one (step.If test left right) (λ b. always_steps left b && always_steps right b)
+if_passes vars o m n p q r t s both test left right one is ready x y z k l e c a = by_step o r one (step.If test left right)
+    (λ b. always_steps left b && always_steps right b)
     (λ b. is_in_any b (reads_of test) || (early_steps left b || early_steps right b)) is (λ b. if_always b test left right) (λ b. if_early b test left right)
     (reads_then o m r (λ b. is_in_any b (reads_of test)) (λ b. always_steps left b && always_steps right b) (λ b. early_steps left b || early_steps right b) x
     (branch_taken m q r both (λ b. always_steps left b && always_steps right b) (λ b. early_steps left b || early_steps right b)
@@ -123,7 +126,8 @@ case_passes o m n p q r t s on arms rest one is x y z k a = by_step o r one (ste
     (λ b. is_in_any b (reads_of on) || (arms_read b arms || (early_steps rest b || any_early arms b))) is
     (λ b. case_always b on arms rest ∙ turned (all_always arms b) (always_steps rest b))
     (λ b. case_early b on arms rest ∙ five (is_in_any b (reads_of on)) (arms_read b arms) (any_early arms b) (early_steps rest b))
-    (reads_then o m r (λ b. is_in_any b (reads_of on)) (λ b. always_steps rest b && all_always arms b) (λ b. arms_read b arms || (early_steps rest b || any_early arms b)) x
+    (reads_then o m r (λ b. is_in_any b (reads_of on)) (λ b. always_steps rest b && all_always arms b)
+    (λ b. arms_read b arms || (early_steps rest b || any_early arms b)) x
     (reads_then m n r (λ b. arms_read b arms) (λ b. always_steps rest b && all_always arms b) (λ b. early_steps rest b || any_early arms b) y
     (branch_taken n q r s (λ b. always_steps rest b && all_always arms b) (λ b. early_steps rest b || any_early arms b)
     (branch_then n p q t s (always_steps rest) (all_always arms) (early_steps rest) (any_early arms) z k) a)))
@@ -174,7 +178,8 @@ arms_next vars o m n q first t s both arms i arm lt is ready x y k l e c = branc
     ∙ sym (list_all_more (λ (a : StepArm). always_steps a.body b) arms i arm lt)))
     (λ b. ap (λ (a : StepArm). any_early (take i arms) b || early_steps a.body b) is
     ∙ sym (list_any_more (λ (a : StepArm). early_steps a.body b) arms i arm lt))
-    (branch_both vars o m n q t s both (λ b. is_listed first b && all_always (take i arms) b) (always_steps arm.body) (any_early (take i arms)) (early_steps arm.body) ready x y k l e c)
+    (branch_both vars o m n q t s both (λ b. is_listed first b && all_always (take i arms) b) (always_steps arm.body) (any_early (take i arms))
+    (early_steps arm.body) ready x y k l e c)
   where
     assoc : (a b d : Bool) → ((a && b) && d) ≡ (a && (b && d))
     assoc true b d = refl

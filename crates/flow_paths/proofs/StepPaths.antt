@@ -100,7 +100,8 @@ bodies_always : (b : Bit) (arms : List StepArm) → list_all (list_any (event_wr
     ≡ list_all (λ (arm : StepArm). always_steps arm.body b) arms
 bodies_always b arms = all_flat (list_any (event_writes b)) (λ (a : ArmPaths). a.body) (map arm_form arms)
     ∙ all_map (λ (a : ArmPaths). list_all (list_any (event_writes b)) a.body) arm_form arms
-    ∙ all_same (λ (arm : StepArm). list_all (list_any (event_writes b)) (paths arm.body)) (λ (arm : StepArm). always_steps arm.body b) (λ arm. always_block b arm.body) arms
+    ∙ all_same (λ (arm : StepArm). list_all (list_any (event_writes b)) (paths arm.body)) (λ (arm : StepArm). always_steps arm.body b)
+    (λ arm. always_block b arm.body) arms
 
 bodies_early : (b : Bit) (arms : List StepArm) → list_any (read_first b) (bodies arms) ≡ list_any (λ (arm : StepArm). early_steps arm.body b) arms
 bodies_early b arms = any_flat (read_first b) (λ (a : ArmPaths). a.body) (map arm_form arms)
@@ -114,7 +115,8 @@ arms_read b arms = list_any (λ (arm : StepArm). list_any (λ item. is_in_any b 
 items_read : (b : Bit) (arms : List StepArm) → is_in_any b (arm_spans arms) ≡ arms_read b arms
 items_read b arms = any_flat (is_in b) (λ (a : ArmPaths). a.items) (map arm_form arms)
     ∙ any_map (λ (a : ArmPaths). list_any (is_in b) a.items) arm_form arms
-    ∙ any_same (λ (arm : StepArm). list_any (is_in b) (flat_map item_reads arm.items)) (λ (arm : StepArm). list_any (λ item. is_in_any b (item_reads item)) arm.items)
+    ∙ any_same (λ (arm : StepArm). list_any (is_in b) (flat_map item_reads arm.items))
+    (λ (arm : StepArm). list_any (λ item. is_in_any b (item_reads item)) arm.items)
     (λ arm. any_flat (is_in b) item_reads arm.items) arms
 
 pub case_always : (b : Bit) (on : Typed) (arms : List StepArm) (rest : List Step)

@@ -9,7 +9,8 @@ lookup-last : {K V : Type 0} (test : K → Bool) (es : List (K × V)) (key : K) 
     → lookup test (es ++ (key, v) ∷ []) ≡ option_or (lookup test es) (cond (test key) (Some v) None)
 lookup-last test [] key v = refl
 lookup-last {K} {V} test (e ∷ es) key v =
-    elim (test e.0) as (λ b. cond b (Some e.1) (lookup test (es ++ (key, v) ∷ [])) ≡ option_or (cond b (Some e.1) (lookup test es)) (cond (test key) (Some v) None)) [
+    elim (test e.0) as (λ b. cond b (Some e.1) (lookup test (es ++ (key, v) ∷ []))
+    ≡ option_or (cond b (Some e.1) (lookup test es)) (cond (test key) (Some v) None)) [
       | true ↦ refl
       | false ↦ lookup-last test es key v
     ]

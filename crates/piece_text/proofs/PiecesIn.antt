@@ -43,4 +43,5 @@ module _ (s : State) where
   first_piece p ps h = with_test s (λ d. list_all (is_piece d) (p ∷ ps)) (λ d. is_piece d p) h (λ d ok. left_true (is_piece d p) (list_all (is_piece d) ps) ok)
 
   pub rest_pieces : (p : Piece) (ps : List Piece) → ArePiecesIn s (p ∷ ps) → ArePiecesIn s ps
-  rest_pieces p ps h = with_test s (λ d. list_all (is_piece d) (p ∷ ps)) (λ d. list_all (is_piece d) ps) h (λ d ok. right_true (is_piece d p) (list_all (is_piece d) ps) ok)
+  rest_pieces p ps h = with_test s (λ d. list_all (is_piece d) (p ∷ ps)) (λ d. list_all (is_piece d) ps) h
+      (λ d ok. right_true (is_piece d p) (list_all (is_piece d) ps) ok)

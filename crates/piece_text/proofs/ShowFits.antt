@@ -73,20 +73,38 @@ module _ (d : Design) (vars : All IsVariable d.vars) where
 
   pub is_wide : (e : Typed) → Wide e
   is_wide = typed_induction Wide
-      (λ w n. at_node (e.Number w n) _ _ (typed.fold-Number ℕ ℕ (node_width d) index_width w n) (typed.para-Number Bool Bool (node_typed d) index_typed w n) (λ ok. left_true (is_width w) (nat_lt n (2 ^ w)) ok))
-      (λ v. at_node (e.Var v) _ _ (typed.fold-Var ℕ ℕ (node_width d) index_width v) (typed.para-Var Bool Bool (node_typed d) index_typed v) (λ ok. var_wide v (left_true (is_var d v) ((var_of d v).words == 1) ok)))
-      (λ v at k. at_node (e.Word v at) _ _ (typed.fold-Word ℕ ℕ (node_width d) index_width v at) (typed.para-Word Bool Bool (node_typed d) index_typed v at) (λ ok. var_wide v (left_true (is_var d v) (is_index d at) ok)))
-      (λ w of at k1 k2. at_node (e.Part w of at) _ _ (typed.fold-Part ℕ ℕ (node_width d) index_width w of at) (typed.para-Part Bool Bool (node_typed d) index_typed w of at) (λ ok. left_true (is_width w) (is_typed d of) (left_true (is_width w && is_typed d of) (is_index d at) ok)))
-      (λ w of k. at_node (e.ZeroExtend w of) _ _ (typed.fold-ZeroExtend ℕ ℕ (node_width d) index_width w of) (typed.para-ZeroExtend Bool Bool (node_typed d) index_typed w of) (λ ok. left_true (is_width w) (is_typed d of) (left_true (is_width w && is_typed d of) (nat_le (width_of d of) w) ok)))
-      (λ w of k. at_node (e.SignExtend w of) _ _ (typed.fold-SignExtend ℕ ℕ (node_width d) index_width w of) (typed.para-SignExtend Bool Bool (node_typed d) index_typed w of) (λ ok. left_true (is_width w) (is_typed d of) (left_true (is_width w && is_typed d of) (nat_le (width_of d of) w) ok)))
-      (λ w of k. at_node (e.Truncate w of) _ _ (typed.fold-Truncate ℕ ℕ (node_width d) index_width w of) (typed.para-Truncate Bool Bool (node_typed d) index_typed w of) (λ ok. left_true (is_width w) (is_typed d of) (left_true (is_width w && is_typed d of) (nat_le w (width_of d of)) ok)))
-      (λ op of k. at_node (e.Unary op of) _ _ (typed.fold-Unary ℕ ℕ (node_width d) index_width op of) (typed.para-Unary Bool Bool (node_typed d) index_typed op of) (λ ok. unary_wide op (width_of d of) (k ok)))
-      (λ op left right k1 k2. at_node (e.Binary op left right) _ _ (typed.fold-Binary ℕ ℕ (node_width d) index_width op left right) (typed.para-Binary Bool Bool (node_typed d) index_typed op left right) (λ ok. binary_wide op (width_of d left)
+      (λ w n. at_node (e.Number w n) _ _ (typed.fold-Number ℕ ℕ (node_width d) index_width w n) (typed.para-Number Bool Bool (node_typed d) index_typed w n)
+      (λ ok. left_true (is_width w) (nat_lt n (2 ^ w)) ok))
+      (λ v. at_node (e.Var v) _ _ (typed.fold-Var ℕ ℕ (node_width d) index_width v) (typed.para-Var Bool Bool (node_typed d) index_typed v)
+      (λ ok. var_wide v (left_true (is_var d v) ((var_of d v).words == 1) ok)))
+      (λ v at k. at_node (e.Word v at) _ _ (typed.fold-Word ℕ ℕ (node_width d) index_width v at) (typed.para-Word Bool Bool (node_typed d) index_typed v at)
+      (λ ok. var_wide v (left_true (is_var d v) (is_index d at) ok)))
+      (λ w of at k1 k2. at_node (e.Part w of at) _ _ (typed.fold-Part ℕ ℕ (node_width d) index_width w of at)
+      (typed.para-Part Bool Bool (node_typed d) index_typed w of at)
+      (λ ok. left_true (is_width w) (is_typed d of) (left_true (is_width w && is_typed d of) (is_index d at) ok)))
+      (λ w of k. at_node (e.ZeroExtend w of) _ _ (typed.fold-ZeroExtend ℕ ℕ (node_width d) index_width w of)
+      (typed.para-ZeroExtend Bool Bool (node_typed d) index_typed w of)
+      (λ ok. left_true (is_width w) (is_typed d of) (left_true (is_width w && is_typed d of) (nat_le (width_of d of) w) ok)))
+      (λ w of k. at_node (e.SignExtend w of) _ _ (typed.fold-SignExtend ℕ ℕ (node_width d) index_width w of)
+      (typed.para-SignExtend Bool Bool (node_typed d) index_typed w of)
+      (λ ok. left_true (is_width w) (is_typed d of) (left_true (is_width w && is_typed d of) (nat_le (width_of d of) w) ok)))
+      (λ w of k. at_node (e.Truncate w of) _ _ (typed.fold-Truncate ℕ ℕ (node_width d) index_width w of)
+      (typed.para-Truncate Bool Bool (node_typed d) index_typed w of)
+      (λ ok. left_true (is_width w) (is_typed d of) (left_true (is_width w && is_typed d of) (nat_le w (width_of d of)) ok)))
+      (λ op of k. at_node (e.Unary op of) _ _ (typed.fold-Unary ℕ ℕ (node_width d) index_width op of)
+      (typed.para-Unary Bool Bool (node_typed d) index_typed op of) (λ ok. unary_wide op (width_of d of) (k ok)))
+      (λ op left right k1 k2. at_node (e.Binary op left right) _ _ (typed.fold-Binary ℕ ℕ (node_width d) index_width op left right)
+      (typed.para-Binary Bool Bool (node_typed d) index_typed op left right) (λ ok. binary_wide op (width_of d left)
       (k1 (left_true (is_typed d left) (is_typed d right) (left_true (is_typed d left && is_typed d right) (is_shift op || same_width d left right) ok)))))
-      (λ high low k1 k2. at_node (e.Join high low) _ _ (typed.fold-Join ℕ ℕ (node_width d) index_width high low) (typed.para-Join Bool Bool (node_typed d) index_typed high low) (λ ok. right_true (is_typed d high && is_typed d low) (is_width (width_of d high + width_of d low)) ok))
-      (λ count of k. at_node (e.Repeat count of) _ _ (typed.fold-Repeat ℕ ℕ (node_width d) index_width count of) (typed.para-Repeat Bool Bool (node_typed d) index_typed count of) (λ ok. right_true (is_typed d of) (is_width (count * width_of d of)) ok))
-      (λ test left right k0 k1 k2. at_node (e.Choose test left right) _ _ (typed.fold-Choose ℕ ℕ (node_width d) index_width test left right) (typed.para-Choose Bool Bool (node_typed d) index_typed test left right) (λ ok.
-      k1 (right_true (is_typed d test && width_of d test == 1) (is_typed d left) (left_true (is_typed d test && width_of d test == 1 && is_typed d left) (is_typed d right)
+      (λ high low k1 k2. at_node (e.Join high low) _ _ (typed.fold-Join ℕ ℕ (node_width d) index_width high low)
+      (typed.para-Join Bool Bool (node_typed d) index_typed high low)
+      (λ ok. right_true (is_typed d high && is_typed d low) (is_width (width_of d high + width_of d low)) ok))
+      (λ count of k. at_node (e.Repeat count of) _ _ (typed.fold-Repeat ℕ ℕ (node_width d) index_width count of)
+      (typed.para-Repeat Bool Bool (node_typed d) index_typed count of) (λ ok. right_true (is_typed d of) (is_width (count * width_of d of)) ok))
+      (λ test left right k0 k1 k2. at_node (e.Choose test left right) _ _ (typed.fold-Choose ℕ ℕ (node_width d) index_width test left right)
+      (typed.para-Choose Bool Bool (node_typed d) index_typed test left right) (λ ok.
+      k1 (right_true (is_typed d test && width_of d test == 1) (is_typed d left)
+      (left_true (is_typed d test && width_of d test == 1 && is_typed d left) (is_typed d right)
       (left_true (is_typed d test && width_of d test == 1 && is_typed d left && is_typed d right) (same_width d left right) ok)))))
 
 width_bounds : (w : ℕ) → is_width w ≡ true → (1 ≤ w) × (w ≤ 128)
@@ -110,14 +128,16 @@ module _ (d : Design) (s : State) (of : IsStateOf d s) (vars : All IsVariable d.
   value_fits is_signed x ok =
       let k : (1 ≤ width_of d x) × (width_of d x ≤ 128) × ((value_in s x).width
       ≡ width_of d x) × ((value_in s x).number < 2 ^ width_of d x) = shown_value x ok in
-      dec_fits is_signed (value_in s x).width (value_in s x).number (omega (arith, k.0, k.2)) (omega (arith, k.1, k.2)) (subst (λ w. (value_in s x).number < 2 ^ w) (sym k.2) k.3)
+      dec_fits is_signed (value_in s x).width (value_in s x).number (omega (arith, k.0, k.2)) (omega (arith, k.1, k.2))
+      (subst (λ w. (value_in s x).number < 2 ^ w) (sym k.2) k.3)
 
   same_width_of : (x : Typed) → is_typed d x ≡ true → (value_in s x).width ≡ width_of d x
   same_width_of x ok = (fits d s of x ok).0
 
   piece_fits : (p : Piece) → is_piece d p ≡ true → length (piece_text s p) ≤ piece_length d p
   piece_fits (piece.Text bytes) ok = omega arith
-  piece_fits (piece.Dec is_signed true x) ok = subst (λ w. length (dec_text is_signed (value_in s x)) ≤ decimal_columns is_signed w) (same_width_of x ok) (value_fits is_signed x ok)
+  piece_fits (piece.Dec is_signed true x) ok = subst (λ w. length (dec_text is_signed (value_in s x)) ≤ decimal_columns is_signed w) (same_width_of x ok)
+      (value_fits is_signed x ok)
   piece_fits (piece.Dec is_signed false x) ok =
       subst (λ w. length (piece_text s (piece.Dec is_signed false x)) ≤ decimal_columns is_signed w) (same_width_of x ok)
       (omega (arith, right_length (decimal_columns is_signed (value_in s x).width) (dec_text is_signed (value_in s x)) (value_fits is_signed x ok)))
@@ -127,7 +147,8 @@ module _ (d : Design) (s : State) (of : IsStateOf d s) (vars : All IsVariable d.
       (omega (arith, trimmed_fits (digits 16 (hex_columns a.width) a.number), length-digits 16 (hex_columns a.width) a.number))
   piece_fits (piece.Hex false x) ok =
       let a : Value = value_in s x in
-      subst (λ w. length (piece_text s (piece.Hex false x)) ≤ hex_columns w) (same_width_of x ok) (omega (arith, length-digits 16 (hex_columns a.width) a.number))
+      subst (λ w. length (piece_text s (piece.Hex false x)) ≤ hex_columns w) (same_width_of x ok)
+      (omega (arith, length-digits 16 (hex_columns a.width) a.number))
   piece_fits (piece.Bin true x) ok =
       let a : Value = value_in s x in
       subst (λ w. length (piece_text s (piece.Bin true x)) ≤ w) (same_width_of x ok)

@@ -84,7 +84,8 @@ half (suc v) h = let e : suc v - 1 ≡ v = omega arith in pow-succ' 2 v ∙ ap (
 
 -- a value's text is no longer than the columns of its width
 pub text_fits : (is_signed : Bool) (w n : ℕ) → 1 ≤ w → w ≤ 128 → n < 2 ^ w → length (value_text is_signed w n) ≤ columns_for is_signed w
-text_fits false w n some most h = rw (unsigned_text w n, unsigned_columns w) (decimals_grow n (2 ^ w - 1) (omega (arith, h)) (omega (arith, wide w most, pow_pos w)))
+text_fits false w n some most h = rw (unsigned_text w n, unsigned_columns w)
+    (decimals_grow n (2 ^ w - 1) (omega (arith, h)) (omega (arith, wide w most, pow_pos w)))
 text_fits true w n some most h = elim (cases_lt n (2 ^ (w - 1))) [
   | inl low ↦ rw (positive_text w n low, signed_columns w)
       (omega (arith, decimals_grow n (2 ^ (w - 1)) (omega (arith, low)) (omega (arith, half w some, wide w most, pow_pos (w - 1)))))

@@ -59,7 +59,8 @@ least_from : (n : ℕ) (ps : Counts) (a : ℕ) → least_at n ps (Some a) ≡ So
 least_from n [] a = refl
 least_from n (p ∷ ps) a =
     elim (has_line n (lines_of_point p)) as (λ b. least_at n ps (offered (Some a) b p.1)
-    ≡ Some (least (a ∷ map (λ (x : Point). x.1) (cond b (p ∷ filter (λ x. has_line n (lines_of_point x)) ps) (filter (λ x. has_line n (lines_of_point x)) ps))))) [
+    ≡ Some (least (a ∷ map (λ (x : Point). x.1)
+    (cond b (p ∷ filter (λ x. has_line n (lines_of_point x)) ps) (filter (λ x. has_line n (lines_of_point x)) ps))))) [
       | true ↦ least_from n ps (min p.1 a) ∙ ap (λ (m : ℕ). Some m) (least_lesser a p.1 (counts_at n ps))
       | false ↦ least_from n ps a
     ]
@@ -72,7 +73,9 @@ pub least_of_line : (n : ℕ) (ps : Counts) → least_at n ps None ≡ cond (has
 least_of_line n [] = refl
 least_of_line n (p ∷ ps) =
     elim (has_line n (lines_of_point p)) as (λ b. has_line n (lines_of_point p) ≡ b → least_at n ps (offered None b p.1)
-    ≡ cond (b || has_line n (flat_map lines_of_point ps)) (Some (least (map (λ (x : Point). x.1) (cond b (p ∷ filter (λ x. has_line n (lines_of_point x)) ps) (filter (λ x. has_line n (lines_of_point x)) ps))))) None) [
+    ≡ cond (b || has_line n (flat_map lines_of_point ps))
+    (Some (least (map (λ (x : Point). x.1)
+    (cond b (p ∷ filter (λ x. has_line n (lines_of_point x)) ps) (filter (λ x. has_line n (lines_of_point x)) ps))))) None) [
       | true ↦ λ t. least_from n ps p.1
       | false ↦ λ t. least_of_line n ps
     ] refl

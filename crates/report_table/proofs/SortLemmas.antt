@@ -14,7 +14,8 @@ pub put_seen : (es : List (Bor (List ℕ) × ℕ)) (k : Bor (List ℕ)) (v : ℕ
     → seen_sorted (insert_entry by_bytes es k v) ≡ put (slice_cmp nat_cmp) k.now v (seen_sorted es)
 put_seen [] k v = refl
 put_seen (e ∷ es) k v = elim (by_bytes k e.0) as (λ o. seen_sorted (match_ordering o ((k, v) ∷ e ∷ es) ((e.0, v) ∷ es) (e ∷ insert_entry by_bytes es k v))
-    ≡ by_order o ((k.now, v) ∷ (e.0.now, e.1) ∷ seen_sorted es) ((e.0.now, v) ∷ seen_sorted es) ((e.0.now, e.1) ∷ put (slice_cmp nat_cmp) k.now v (seen_sorted es))) [
+    ≡ by_order o ((k.now, v) ∷ (e.0.now, e.1) ∷ seen_sorted es) ((e.0.now, v) ∷ seen_sorted es)
+    ((e.0.now, e.1) ∷ put (slice_cmp nat_cmp) k.now v (seen_sorted es))) [
       | Less ↦ refl
       | Equal ↦ refl
       | Greater ↦ ap (λ (xs : Counts). (e.0.now, e.1) ∷ xs) (put_seen es k v)
@@ -24,7 +25,8 @@ put_seen (e ∷ es) k v = elim (by_bytes k e.0) as (λ o. seen_sorted (match_ord
 pub put_name : (es : List (Bor (List ℕ) × ℕ)) (k : Bor (List ℕ)) (v : ℕ)
     → map (λ e. (e.0.now, tt {0})) (insert_entry by_bytes es k v) ≡ put (slice_cmp nat_cmp) k.now (tt {0}) (map (λ e. (e.0.now, tt {0})) es)
 put_name [] k v = refl
-put_name (e ∷ es) k v = elim (by_bytes k e.0) as (λ o. map (λ x. (x.0.now, tt {0})) (match_ordering o ((k, v) ∷ e ∷ es) ((e.0, v) ∷ es) (e ∷ insert_entry by_bytes es k v))
+put_name (e ∷ es) k v = elim (by_bytes k e.0) as
+    (λ o. map (λ x. (x.0.now, tt {0})) (match_ordering o ((k, v) ∷ e ∷ es) ((e.0, v) ∷ es) (e ∷ insert_entry by_bytes es k v))
     ≡ by_order o ((k.now, tt {0}) ∷ (e.0.now, tt {0}) ∷ map (λ x. (x.0.now, tt {0})) es) ((e.0.now, tt {0}) ∷ map (λ x. (x.0.now, tt {0})) es)
     ((e.0.now, tt {0}) ∷ put (slice_cmp nat_cmp) k.now (tt {0}) (map (λ x. (x.0.now, tt {0})) es))) [
       | Less ↦ refl

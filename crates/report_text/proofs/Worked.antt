@@ -120,7 +120,8 @@ bad_name = refl
 
 -- the branch lines of one line
 abbrev branch : List ℕ → List ℕ → List ℕ
-branch l comment = key_of ((codes "f", codes "c.v") ∷ (codes "l", l) ∷ (codes "n", codes "5") ∷ (codes "t", codes "branch") ∷ (codes "o", comment) ∷ (codes "S", codes "3") ∷ [])
+branch l comment = key_of ((codes "f", codes "c.v") ∷ (codes "l", l) ∷ (codes "n", codes "5") ∷ (codes "t", codes "branch") ∷ (codes "o", comment) ∷
+    (codes "S", codes "3") ∷ [])
 
 branch_lines : info_text ((branch (codes "3") (codes "else"), 3) ∷ (branch (codes "3") (codes "if"), 1) ∷ [])
     ≡ text_of (codes "TN:vcov" ∷ codes "SF:c.v" ∷ codes "DA:3,1" ∷ codes "BRDA:3,0,0,3" ∷ codes "BRDA:3,0,1,1" ∷ codes "end_of_record" ∷ [])

@@ -37,7 +37,8 @@ pub record Options : Type 0 where
 -- a source line and what follows it
 abbrev pub source_line : Options → Counts → List ℕ → ℕ × Line → List ℕ
 source_line options counts file l =
-    (if nat_lt 0 (length (items_of counts file l.0)) then counted_line (is_low options.minimum counts file l.0) (line_count counts file l.0) l.1.0 else plain_line l.1.0)
+    (if nat_lt 0 (length (items_of counts file l.0)) then counted_line (is_low options.minimum counts file l.0) (line_count counts file l.0) l.1.0 else
+    plain_line l.1.0)
     ++ (if options.points then flat_map (point_line options.minimum) (points_at counts file l.0) else [])
 
 -- the text of an annotated file

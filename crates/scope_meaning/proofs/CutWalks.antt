@@ -61,20 +61,25 @@ mutual
   cut_one (region x) (comes_to f) = never (sym f)
   cut_one (region x) (region y) = cut_walked x y
   cut_one (instances e x) (comes_to f) = inl (_, refl)
-  cut_one {design} {here} {at} {a} (instances {params = params} {made = all} {m = m} {vs = vs} e x) (instances {number = number'} {next = n'} {m = m'} {vs = ws} f y) =
+  cut_one {design} {here} {at} {a} (instances {params = params} {made = all} {m = m} {vs = vs} e x)
+      (instances {number = number'} {next = n'} {m = m'} {vs = ws} f y) =
       let q : (number', m') ≡ (_, m) = same _ _ (sym f ∙ e) in
       after (sees (an_item here at a) ∷ []) (sees (an_item here at a) ∷ []) vs ws refl
-      (cut_makes x (subst (λ (k : ℕ × Module). AreMade design here at (item_place a) k.0 k.1 (givens (names_here here at) k.1 params) at.next all ws n' false) q y))
+      (cut_makes x (subst (λ (k : ℕ × Module). AreMade design here at (item_place a) k.0 k.1 (givens (names_here here at) k.1 params) at.next all ws n'
+      false) q y))
   cut_one (loop e x) (comes_to f) = inl (_, refl)
-  cut_one {design} {here} {at} {a} (loop {name = name} {step_name = step_name} {from = from} {test = test} {step = step} {label = label} {places = places} {body = body} {vs = vs} e x)
+  cut_one {design} {here} {at} {a}
+      (loop {name = name} {step_name = step_name} {from = from} {test = test} {step = step} {label = label} {places = places} {body = body} {vs = vs} e x)
       (loop {n = n'} {next = k'} {vs = ws} f y) =
       after (sees (an_item here at a) ∷ []) (sees (an_item here at a) ∷ []) vs ws refl
-      (cut_passes x (subst (λ (z : ℤ). ArePasses design here (item_place a) (gen_loop name from test step_name step label places body) at z ws k' false) (same _ _ (sym f ∙ e)) y))
+      (cut_passes x (subst (λ (z : ℤ). ArePasses design here (item_place a) (gen_loop name from test step_name step label places body) at z ws k' false)
+      (same _ _ (sym f ∙ e)) y))
   cut_one (choice e x) (comes_to f) = inl (_, refl)
   cut_one {design} {here} {at} {a} (choice {first = first} {body = body} {vs = vs} e x) (choice {first = first'} {next = k'} {body = body'} {vs = ws} f y) =
       let q : (first', body') ≡ (first, body) = same _ _ (same _ _ (sym f ∙ e)) in
       after (sees (an_item here at a) ∷ []) (sees (an_item here at a) ∷ []) vs ws refl
-      (cut_blocks x (subst (λ (z : ℕ × GenBody). IsBlock design here at (block_name (names_declared here) (at.construct + 1) (out-GenBody z.1).name) None z.0 (out-GenBody z.1).items ws k' false) q y))
+      (cut_blocks x (subst (λ (z : ℕ × GenBody). IsBlock design here at (block_name (names_declared here) (at.construct + 1) (out-GenBody z.1).name) None z.0
+      (out-GenBody z.1).items ws k' false) q y))
 
   cut_passes : {design : List Module} {here : Here} {p : Place} {l : GenLoop} {at : At} {n : ℤ} {vs : Visits} {next : ℕ}
       → ArePasses design here p l at n vs next false
@@ -84,7 +89,8 @@ mutual
   cut_passes ends_at_test (ends_in_block f y) = inr (_, refl)
   cut_passes ends_at_test (ends_at_step f y) = inr (_, refl)
   cut_passes (pass e x s r) ends_at_test = inl (_, refl)
-  cut_passes {design} {here} {p} {l} {at} {n} (pass {k = k} {by = by} {vs = vs} {ws = us} e x s r) (pass {k = k'} {by = by'} {next = next'} {vs = vs'} {ws = us'} f y t q) =
+  cut_passes {design} {here} {p} {l} {at} {n} (pass {k = k} {by = by} {vs = vs} {ws = us} e x s r)
+      (pass {k = k'} {by = by'} {next = next'} {vs = vs'} {ws = us'} f y t q) =
       let b : Front vs vs' by by' true = blocks x y in
       let test : Visit = sees (a_turn p (names_in_pass here at l.name n) l.test) in
       let step : Visit = sees (a_turn p (names_in_pass here at l.name n) l.step) in
@@ -133,16 +139,19 @@ mutual
       let step : Visit = sees (a_turn p (names_in_pass here at l.name n) l.step) in
       after (test ∷ vs) (test ∷ vs') (step ∷ []) (step ∷ []) (ap (λ (a : Visits). test ∷ a) b.0) (inl ([], refl))
 
-  cut_blocks : {design : List Module} {here : Here} {at : At} {name : List ℕ} {genvar : Option Constant} {first : ℕ} {items : List Item} {vs : Visits} {next : ℕ}
+  cut_blocks : {design : List Module} {here : Here} {at : At} {name : List ℕ} {genvar : Option Constant} {first : ℕ} {items : List Item} {vs : Visits}
+      {next : ℕ}
       → IsBlock design here at name genvar first items vs next false
       → {ws : Visits} {k : ℕ} → IsBlock design here at name genvar first items ws k false → Meet vs ws
   cut_blocks {here = here} {at = at} {name = name} {genvar = genvar} (block {vs = vs} x) (block {vs = ws} y) =
       after (entered here at name genvar) (entered here at name genvar) vs ws refl (cut_walked x y)
 
-  cut_makes : {design : List Module} {here : Here} {at : At} {p : Place} {number : ℕ} {m : Module} {given : List Given} {n : ℕ} {all : List Instance} {vs : Visits} {next : ℕ}
+  cut_makes : {design : List Module} {here : Here} {at : At} {p : Place} {number : ℕ} {m : Module} {given : List Given} {n : ℕ} {all : List Instance}
+      {vs : Visits} {next : ℕ}
       → AreMade design here at p number m given n all vs next false
       → {ws : Visits} {k : ℕ} → AreMade design here at p number m given n all ws k false → Meet vs ws
-  cut_makes {design} {here} {at} {p} {number} {m} {given} {n} (made {by = by} {a = a} {more = more} {vs = vs} {ws = us} x xs) (made {by = by'} {next = next'} {vs = vs'} {ws = us'} y ys) =
+  cut_makes {design} {here} {at} {p} {number} {m} {given} {n} (made {by = by} {a = a} {more = more} {vs = vs} {ws = us} x xs)
+      (made {by = by'} {next = next'} {vs = vs'} {ws = us'} y ys) =
       let b : Front vs vs' by by' true = modules x y in
       after (made_at here at p n m a) (made_at here at p n m a) (vs ++ us) (vs' ++ us') refl
       (after vs vs' us us' b.0 (cut_makes xs (subst (λ (c : ℕ). AreMade design here at p number m given c more us' next' false) (sym b.1) ys)))
@@ -153,7 +162,8 @@ mutual
   cut_makes {here = here} {at = at} {p = p} {m = m} {n = n} (ends_in {a = a} {vs = vs} x) (ends_in {vs = vs'} y) =
       after (made_at here at p n m a) (made_at here at p n m a) vs vs' refl (cut_modules x y)
 
-  cut_modules : {design : List Module} {n : ℕ} {parent : Option ℕ} {path : List ℕ} {above : List (List ℕ)} {given : List Given} {number : ℕ} {m : Module} {vs : Visits} {next : ℕ}
+  cut_modules : {design : List Module} {n : ℕ} {parent : Option ℕ} {path : List ℕ} {above : List (List ℕ)} {given : List Given} {number : ℕ} {m : Module}
+      {vs : Visits} {next : ℕ}
       → IsModule design n parent path above given number m vs next false
       → {ws : Visits} {k : ℕ} → IsModule design n parent path above given number m ws k false → Meet vs ws
   cut_modules {design} {n} {parent} {path} {above} {given} {number} {m} (entered_module {by = by} {vs = vs} {ws = us} h x)
@@ -164,13 +174,15 @@ mutual
       after (e ++ vs ++ ports_seen scope by m.ports) (e ++ vs' ++ ports_seen scope by' m.ports) us us'
       (ap (λ (a : Visits). e ++ a ++ ports_seen scope by m.ports) b.0 ∙ ap (λ (c : At). e ++ vs' ++ ports_seen scope c m.ports) b.1)
       (cut_walked x (subst (λ (c : At). AreWalked design (body_scope scope m) (past_header c m.ports) m.items us' to' false) (sym b.1) y))
-  cut_modules {design} {n} {parent} {path} {above} {given} {number} {m} (entered_module {by = by} {vs = vs} {ws = us} h x) (ends_in_header {by = by'} {vs = vs'} i) =
+  cut_modules {design} {n} {parent} {path} {above} {given} {number} {m} (entered_module {by = by} {vs = vs} {ws = us} h x)
+      (ends_in_header {by = by'} {vs = vs'} i) =
       let scope : Here = module_scope n path above given number m in
       let e : Visits = module_entered n parent path number m in
       let f : (rest : Visits) × (vs ++ (ports_seen scope by m.ports ++ us) ≡ vs' ++ rest) = shorter vs vs' (ports_seen scope by m.ports
       ++ us) by by' (headers h i) in
       inl (f.0, ap (λ (a : Visits). e ++ a) (append_assoc vs (ports_seen scope by m.ports) us ∙ f.1))
-  cut_modules {design} {n} {parent} {path} {above} {given} {number} {m} (ends_in_header {by = by'} {vs = vs'} i) (entered_module {by = by} {vs = vs} {ws = us} h x) =
+  cut_modules {design} {n} {parent} {path} {above} {given} {number} {m} (ends_in_header {by = by'} {vs = vs'} i)
+      (entered_module {by = by} {vs = vs} {ws = us} h x) =
       let scope : Here = module_scope n path above given number m in
       let e : Visits = module_entered n parent path number m in
       let f : (rest : Visits) × (vs ++ (ports_seen scope by m.ports ++ us) ≡ vs' ++ rest) = shorter vs vs' (ports_seen scope by m.ports

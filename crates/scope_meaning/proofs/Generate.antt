@@ -139,14 +139,16 @@ five a b c d f = declare input (codes "a") ∷ declare input (codes "ci") ∷ de
 
 declared : module_declares r ≡ its_names
 declared =
-    ap (λ x. five x (declares (assign (at 1 61) (bit (codes "c") (number 0)) (name (codes "ci")))) (declares (item (at 1 78) (i.Genvar (name_at (codes "i") 1 85 ∷ []))))
+    ap (λ x. five x (declares (assign (at 1 61) (bit (codes "c") (number 0)) (name (codes "ci"))))
+    (declares (item (at 1 78) (i.Genvar (name_at (codes "i") 1 85 ∷ []))))
     (declares (item (at 2 1) (i.Generate (the_loop ∷ [])))) (declares (assign (at 2 97) (name (codes "co")) (bit (codes "c") (number 4))))) of_wires
     ∙ ap (λ x. five (declare wire (codes "c") ∷ []) x (declares (item (at 1 78) (i.Genvar (name_at (codes "i") 1 85 ∷ []))))
     (declares (item (at 2 1) (i.Generate (the_loop ∷ [])))) (declares (assign (at 2 97) (name (codes "co")) (bit (codes "c") (number 4)))))
     (of_assign (at 1 61) (bit (codes "c") (number 0)) (name (codes "ci")))
     ∙ ap (λ x. five (declare wire (codes "c") ∷ []) [] x
     (declares (item (at 2 1) (i.Generate (the_loop ∷ [])))) (declares (assign (at 2 97) (name (codes "co")) (bit (codes "c") (number 4))))) of_genvar
-    ∙ ap (λ x. five (declare wire (codes "c") ∷ []) [] (declare genvar (codes "i") ∷ []) x (declares (assign (at 2 97) (name (codes "co")) (bit (codes "c") (number 4))))) of_region
+    ∙ ap (λ x. five (declare wire (codes "c") ∷ []) [] (declare genvar (codes "i") ∷ []) x
+    (declares (assign (at 2 97) (name (codes "co")) (bit (codes "c") (number 4))))) of_region
     ∙ ap (λ x. five (declare wire (codes "c") ∷ []) [] (declare genvar (codes "i") ∷ []) (declare scope_name (codes "g") ∷ []) x)
     (of_assign (at 2 97) (name (codes "co")) (bit (codes "c") (number 4)))
 
@@ -167,14 +169,17 @@ unfolding meaning_of
 has_value a n = ap (λ ds. in_pass_of ds a.known n) declared
 
 abbrev said : BinaryOp → ℤ → ℕ → Read
-said op n k = node (constants (λ (x : List ℕ). None)) (lo.Binary op (of_name (Some (genvar_constant (codes "i") n))) (node (constants (λ (x : List ℕ). None)) (lo.Number 32 true k 0)))
+said op n k = node (constants (λ (x : List ℕ). None))
+    (lo.Binary op (of_name (Some (genvar_constant (codes "i") n))) (node (constants (λ (x : List ℕ). None)) (lo.Number 32 true k 0)))
 
 tests : (a : At) (n : ℤ) → test_of (names_in_pass scope a (codes "i") n) below_4 ≡ option_of (λ m. holds m []) (meaning_in (said binary.Less n 4))
-tests a n = ap (λ (x : Read). option_of (λ m. holds m []) (meaning_in x)) (with_number (names_in_pass scope a (codes "i") n) binary.Less (codes "i") (Some (genvar_constant (codes "i") n)) 32 true 4 (has_value a n))
+tests a n = ap (λ (x : Read). option_of (λ m. holds m []) (meaning_in x))
+    (with_number (names_in_pass scope a (codes "i") n) binary.Less (codes "i") (Some (genvar_constant (codes "i") n)) 32 true 4 (has_value a n))
 
 steps : (a : At) (n : ℤ) → genvar_value (names_in_pass scope a (codes "i") n) plus_1
     ≡ option_of (λ m. v.signed 32 (assigned 32 m)) (meaning_in (said binary.Add n 1))
-steps a n = ap (λ (x : Read). option_of (λ m. v.signed 32 (assigned 32 m)) (meaning_in x)) (with_number (names_in_pass scope a (codes "i") n) binary.Add (codes "i") (Some (genvar_constant (codes "i") n)) 32 true 1 (has_value a n))
+steps a n = ap (λ (x : Read). option_of (λ m. v.signed 32 (assigned 32 m)) (meaning_in x))
+    (with_number (names_in_pass scope a (codes "i") n) binary.Add (codes "i") (Some (genvar_constant (codes "i") n)) 32 true 1 (has_value a n))
 
 test_3 : (a : At) → test_of (names_in_pass scope a (codes "i") (pos 3)) below_4 ≡ Some true
 test_3 a = tests a (pos 3)
@@ -194,11 +199,17 @@ plain_item : (p : Place) (what : ItemKind) → is_plain (out-ItemKind what) ≡ 
 plain_item p what e = ap is_plain (layer-item p what) ∙ e
 
 plain_assign : (p : Place) (target value : Expr) → is_plain (layer (assign p target value)) ≡ true
-plain_assign p target value = plain_item p (i.Assign (record { target = target; value = value } ∷ [])) (ap is_plain (i.outs-Assign (record { target = target; value = value } ∷ [])))
+plain_assign p target value = plain_item p (i.Assign (record { target = target; value = value } ∷ []))
+    (ap is_plain (i.outs-Assign (record { target = target; value = value } ∷ [])))
 
 one_block : (a : At) (n : ℤ)
     → (vs : Visits) × IsBlock design scope a (pass_name (codes "g") n) (Some (genvar_constant (codes "i") n)) (a.item + 1) body vs (a.next + 1) true
-one_block a n = (_, block (goes_on (plain (plain_assign (at 2 51) (bit (codes "c") plus_1) (e.Binary binary.And (bit (codes "a") (name (codes "i"))) (bit (codes "c") (name (codes "i")))))) no_items))
+one_block a n = (
+  _,
+  block (goes_on
+      (plain (plain_assign (at 2 51) (bit (codes "c") plus_1) (e.Binary binary.And (bit (codes "a") (name (codes "i"))) (bit (codes "c") (name (codes "i"))))))
+      no_items),
+)
 
 abbrev after : At → At
 after a = with_next a (a.next + 1)

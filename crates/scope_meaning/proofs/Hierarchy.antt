@@ -57,7 +57,15 @@ abbrev always : Item
 always = item (at 1 45) (i.Always (Some (codes "clk")) (stmt (at 1 68) st.Empty))
 
 abbrev s : Module
-s = record { place = at 1 1; last = at 1 70; name = codes "s"; params = item (at 1 13) (i.Parameter false form.Plain w_is_1) ∷ []; ports = clk ∷ []; items = always ∷ [] }
+s = record {
+  place = at 1 1;
+  last = at 1 70;
+  name = codes "s";
+  params = item (at 1 13) (i.Parameter false form.Plain w_is_1) ∷ [];
+  ports = clk ∷ [];
+  items =
+      always ∷ [];
+}
 
 abbrev by_name : Conns
 by_name = conns.Named (record { name = codes "clk"; value = Some (e.Name (codes "clk")) } ∷ [])
@@ -84,7 +92,8 @@ top = record {
   name = codes "top";
   params = [];
   ports = clk ∷ [];
-  items = one_of (at 2 25) no_values (codes "u1") by_name ∷ one_of (at 2 42) no_values (codes "u2") in_place ∷ one_of (at 2 55) w_by_name (codes "u3") by_name ∷ [];
+  items = one_of (at 2 25) no_values (codes "u1") by_name ∷ one_of (at 2 42) no_values (codes "u2") in_place ∷ one_of (at 2 55) w_by_name (codes "u3")
+      by_name ∷ [];
 }
 
 abbrev design : List Module
@@ -138,7 +147,8 @@ by_default : (n : ℕ) (path : List ℕ) (above : List (List ℕ))
 unfolding constants_from
 by_default n path above =
     let names : Names = names_here (s_scope n path above []) (start n 0) in
-    ap (λ (r : Read). and_then (and_then (meaning_in r) (λ v. parameter_constant names (codes "W") v form.Plain)) (λ c. Some (c ∷ []))) (read-Number (constants names) 32 true 1 0)
+    ap (λ (r : Read). and_then (and_then (meaning_in r) (λ v. parameter_constant names (codes "W") v form.Plain)) (λ c. Some (c ∷ [])))
+    (read-Number (constants names) 32 true 1 0)
 
 when_given : (n : ℕ) (path : List ℕ) (above : List (List ℕ))
     → constants_of (s_scope n path above (two ∷ [])) (start n 0) false form.Plain w_is_1 ≡ Some (w_const 2 ∷ [])
@@ -203,10 +213,12 @@ abbrev u2 : Item
 u2 = one_of (at 2 42) no_values (codes "u2") in_place
 
 walked1 : (vs : Visits) × IsWalked design top_scope first_place u1 (layer u1) vs (behind first_place u1) true
-walked1 = item_walked top_scope first_place (at 2 25) no_values (codes "u1") by_name [] (w_const 1 ∷ []) (given_none (names_here top_scope first_place)) (by_default 1 _ top_scope.above)
+walked1 = item_walked top_scope first_place (at 2 25) no_values (codes "u1") by_name [] (w_const 1 ∷ []) (given_none (names_here top_scope first_place))
+    (by_default 1 _ top_scope.above)
 
 walked2 : (vs : Visits) × IsWalked design top_scope (behind first_place u1) u2 (layer u2) vs (behind (behind first_place u1) u2) true
-walked2 = item_walked top_scope (behind first_place u1) (at 2 42) no_values (codes "u2") in_place [] (w_const 1 ∷ []) (given_none (names_here top_scope (behind first_place u1))) (by_default 2 _ top_scope.above)
+walked2 = item_walked top_scope (behind first_place u1) (at 2 42) no_values (codes "u2") in_place [] (w_const 1 ∷ [])
+    (given_none (names_here top_scope (behind first_place u1))) (by_default 2 _ top_scope.above)
 
 abbrev u3 : Item
 u3 = one_of (at 2 55) w_by_name (codes "u3") by_name
@@ -215,7 +227,8 @@ abbrev third_place : At
 third_place = behind (behind first_place u1) u2
 
 walked3 : (vs : Visits) × IsWalked design top_scope third_place u3 (layer u3) vs (behind third_place u3) true
-walked3 = item_walked top_scope third_place (at 2 55) w_by_name (codes "u3") by_name (two ∷ []) (w_const 2 ∷ []) (given_by_name (names_here top_scope third_place)) (when_given 3 _ top_scope.above)
+walked3 = item_walked top_scope third_place (at 2 55) w_by_name (codes "u3") by_name (two ∷ []) (w_const 2 ∷ [])
+    (given_by_name (names_here top_scope third_place)) (when_given 3 _ top_scope.above)
 
 found_top : module_named design (codes "top") ≡ Some (1, top)
 unfolding module_from

@@ -36,28 +36,34 @@ parameters-Parameter p form names =
 
 -- what an item declares, by its kind
 abbrev pub kind_says : ItemKind → List Declared
-kind_says = fold-ItemKind (List Declared) (List (List ℕ)) (List (List ℕ)) (List Declared) kind_declares (λ arm. arm.body) (λ body. block_names body.name) (λ a. a.what)
+kind_says = fold-ItemKind (List Declared) (List (List ℕ)) (List (List ℕ)) (List Declared) kind_declares (λ arm. arm.body) (λ body. block_names body.name)
+    (λ a. a.what)
 
 pub declares-item : (p : Place) (what : ItemKind) → declares (item p what) ≡ kind_says what
 declares-item p what =
-    fold-roll-Item (List Declared) (List (List ℕ)) (List (List ℕ)) (List Declared) kind_declares (λ arm. arm.body) (λ body. block_names body.name) (λ a. a.what) (record { place = p; what = what })
+    fold-roll-Item (List Declared) (List (List ℕ)) (List (List ℕ)) (List Declared) kind_declares (λ arm. arm.body) (λ body. block_names body.name)
+    (λ a. a.what) (record { place = p; what = what })
 
 pub says-Wire : (signed : Bool) (range : Option RangeExpr) (names : List WireName)
     → kind_says (i.Wire signed range names) ≡ map (λ w. declare wire w.name.name) names
 says-Wire signed range names = ap kind_says (sym (i.rolls-Wire signed range names)) ∙
-    fold-roll-ItemKind (List Declared) (List (List ℕ)) (List (List ℕ)) (List Declared) kind_declares (λ arm. arm.body) (λ body. block_names body.name) (λ a. a.what) (o.Wire signed range names)
+    fold-roll-ItemKind (List Declared) (List (List ℕ)) (List (List ℕ)) (List Declared) kind_declares (λ arm. arm.body) (λ body. block_names body.name)
+    (λ a. a.what) (o.Wire signed range names)
 
 pub says-Genvar : (names : List NamePlace) → kind_says (i.Genvar names) ≡ map (λ n. declare genvar n.name) names
 says-Genvar names = ap kind_says (sym (i.rolls-Genvar names)) ∙
-    fold-roll-ItemKind (List Declared) (List (List ℕ)) (List (List ℕ)) (List Declared) kind_declares (λ arm. arm.body) (λ body. block_names body.name) (λ a. a.what) (o.Genvar names)
+    fold-roll-ItemKind (List Declared) (List (List ℕ)) (List (List ℕ)) (List Declared) kind_declares (λ arm. arm.body) (λ body. block_names body.name)
+    (λ a. a.what) (o.Genvar names)
 
 pub says-Assign : (parts : List AssignPart) → kind_says (i.Assign parts) ≡ []
 says-Assign parts = ap kind_says (sym (i.rolls-Assign parts)) ∙
-    fold-roll-ItemKind (List Declared) (List (List ℕ)) (List (List ℕ)) (List Declared) kind_declares (λ arm. arm.body) (λ body. block_names body.name) (λ a. a.what) (o.Assign parts)
+    fold-roll-ItemKind (List Declared) (List (List ℕ)) (List (List ℕ)) (List Declared) kind_declares (λ arm. arm.body) (λ body. block_names body.name)
+    (λ a. a.what) (o.Assign parts)
 
 pub says-Generate : (items : List Item) → kind_says (i.Generate items) ≡ flat_map declares items
 says-Generate items = ap kind_says (sym (i.rolls-Generate items)) ∙
-    fold-roll-ItemKind (List Declared) (List (List ℕ)) (List (List ℕ)) (List Declared) kind_declares (λ arm. arm.body) (λ body. block_names body.name) (λ a. a.what) (o.Generate items) ∙ flat_map-map items
+    fold-roll-ItemKind (List Declared) (List (List ℕ)) (List (List ℕ)) (List Declared) kind_declares (λ arm. arm.body) (λ body. block_names body.name)
+    (λ a. a.what) (o.Generate items) ∙ flat_map-map items
   where
     flat_map-map : (xs : List Item) → flat_map (λ (ds : List Declared). ds) (map declares xs) ≡ flat_map declares xs
     flat_map-map [] = refl
@@ -67,7 +73,8 @@ pub says-Loop : (name : List ℕ) (from test : Expr) (step_name : List ℕ) (ste
     → kind_says (i.Loop name from test step_name step block places body) ≡ declare scope_name block.name ∷ []
 says-Loop name from test step_name step block places body =
     ap kind_says (sym (i.rolls-Loop name from test step_name step block places body)) ∙
-    fold-roll-ItemKind (List Declared) (List (List ℕ)) (List (List ℕ)) (List Declared) kind_declares (λ arm. arm.body) (λ body. block_names body.name) (λ a. a.what) (o.Loop name from test step_name step block places body)
+    fold-roll-ItemKind (List Declared) (List (List ℕ)) (List (List ℕ)) (List Declared) kind_declares (λ arm. arm.body) (λ body. block_names body.name)
+    (λ a. a.what) (o.Loop name from test step_name step block places body)
 
 -- the layer of an item that is made of a place and a kind
 pub layer-item : (p : Place) (what : ItemKind) → layer (item p what) ≡ out-ItemKind what

@@ -58,7 +58,8 @@ place = past_header (start 0 0) (clk ∷ [])
 its_name : declares itself ≡ declare scope_name (codes "u") ∷ []
 its_name =
     declares-item (at 23) what ∙ ap kind_says (sym (i.rolls-Instances (codes "m") (conns.Ordered []) made))
-    ∙ fold-roll-ItemKind (List Declared) (List (List ℕ)) (List (List ℕ)) (List Declared) kind_declares (λ arm. arm.body) (λ body. block_names body.name) (λ a. a.what)
+    ∙ fold-roll-ItemKind (List Declared) (List (List ℕ)) (List (List ℕ)) (List Declared) kind_declares (λ arm. arm.body) (λ body. block_names body.name)
+    (λ a. a.what)
     (o.Instances (codes "m") (conns.Ordered []) made)
 
 its_layer : layer itself ≡ o.Instances (codes "m") (conns.Ordered []) made
@@ -70,9 +71,12 @@ its_place = ap (λ x. x.place) (out-roll-Item (record { place = at 23; what = wh
 -- It has no parameters, so nothing is given to one.
 no_parameters : parameters_of itself ≡ []
 no_parameters =
-    fold-roll-Item (List (List ℕ)) (List (List ℕ)) (List (List ℕ)) (List (List ℕ)) kind_parameters (λ arm. []) (λ body. []) (λ a. a.what) (record { place = at 23; what = what })
-    ∙ ap (fold-ItemKind (List (List ℕ)) (List (List ℕ)) (List (List ℕ)) (List (List ℕ)) kind_parameters (λ arm. []) (λ body. []) (λ a. a.what)) (sym (i.rolls-Instances (codes "m") (conns.Ordered []) made))
-    ∙ fold-roll-ItemKind (List (List ℕ)) (List (List ℕ)) (List (List ℕ)) (List (List ℕ)) kind_parameters (λ arm. []) (λ body. []) (λ a. a.what) (o.Instances (codes "m") (conns.Ordered []) made)
+    fold-roll-Item (List (List ℕ)) (List (List ℕ)) (List (List ℕ)) (List (List ℕ)) kind_parameters (λ arm. []) (λ body. []) (λ a. a.what)
+    (record { place = at 23; what = what })
+    ∙ ap (fold-ItemKind (List (List ℕ)) (List (List ℕ)) (List (List ℕ)) (List (List ℕ)) kind_parameters (λ arm. []) (λ body. []) (λ a. a.what))
+    (sym (i.rolls-Instances (codes "m") (conns.Ordered []) made))
+    ∙ fold-roll-ItemKind (List (List ℕ)) (List (List ℕ)) (List (List ℕ)) (List (List ℕ)) kind_parameters (λ arm. []) (λ body. []) (λ a. a.what)
+    (o.Instances (codes "m") (conns.Ordered []) made)
 
 abbrev standing_there : Standing
 standing_there = standing_item scope place (at 23) (codes "u" ∷ []) (o.Instances (codes "m") (conns.Ordered []) made)

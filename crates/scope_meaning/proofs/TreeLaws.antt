@@ -23,15 +23,24 @@ none_passes test [] zs r e t = none_some r (sym (subst (λ (b : Bool). cond b (S
 none_passes test (y ∷ ys) zs r e t = none_passes test ys zs r (cond_none (test y) y (find test (ys ++ r ∷ zs)) e) t
 
 no_rule : (test : ScopeRule → Bool) → find test rules ≡ None → (r : ScopeRule) → test r ≡ true → ⊥
-no_rule test e duplicate t = none_passes test ([]) (not_constant ∷ bad_select ∷ bad_range ∷ width_past_128 ∷ bad_genvar ∷ unknown_module ∷ bad_override ∷ recursive ∷ []) duplicate e t
-no_rule test e not_constant t = none_passes test (duplicate ∷ []) (bad_select ∷ bad_range ∷ width_past_128 ∷ bad_genvar ∷ unknown_module ∷ bad_override ∷ recursive ∷ []) not_constant e t
-no_rule test e bad_select t = none_passes test (duplicate ∷ not_constant ∷ []) (bad_range ∷ width_past_128 ∷ bad_genvar ∷ unknown_module ∷ bad_override ∷ recursive ∷ []) bad_select e t
-no_rule test e bad_range t = none_passes test (duplicate ∷ not_constant ∷ bad_select ∷ []) (width_past_128 ∷ bad_genvar ∷ unknown_module ∷ bad_override ∷ recursive ∷ []) bad_range e t
-no_rule test e width_past_128 t = none_passes test (duplicate ∷ not_constant ∷ bad_select ∷ bad_range ∷ []) (bad_genvar ∷ unknown_module ∷ bad_override ∷ recursive ∷ []) width_past_128 e t
-no_rule test e bad_genvar t = none_passes test (duplicate ∷ not_constant ∷ bad_select ∷ bad_range ∷ width_past_128 ∷ []) (unknown_module ∷ bad_override ∷ recursive ∷ []) bad_genvar e t
-no_rule test e unknown_module t = none_passes test (duplicate ∷ not_constant ∷ bad_select ∷ bad_range ∷ width_past_128 ∷ bad_genvar ∷ []) (bad_override ∷ recursive ∷ []) unknown_module e t
-no_rule test e bad_override t = none_passes test (duplicate ∷ not_constant ∷ bad_select ∷ bad_range ∷ width_past_128 ∷ bad_genvar ∷ unknown_module ∷ []) (recursive ∷ []) bad_override e t
-no_rule test e recursive t = none_passes test (duplicate ∷ not_constant ∷ bad_select ∷ bad_range ∷ width_past_128 ∷ bad_genvar ∷ unknown_module ∷ bad_override ∷ []) ([]) recursive e t
+no_rule test e duplicate t = none_passes test ([])
+    (not_constant ∷ bad_select ∷ bad_range ∷ width_past_128 ∷ bad_genvar ∷ unknown_module ∷ bad_override ∷ recursive ∷ []) duplicate e t
+no_rule test e not_constant t = none_passes test (duplicate ∷ [])
+    (bad_select ∷ bad_range ∷ width_past_128 ∷ bad_genvar ∷ unknown_module ∷ bad_override ∷ recursive ∷ []) not_constant e t
+no_rule test e bad_select t = none_passes test (duplicate ∷ not_constant ∷ [])
+    (bad_range ∷ width_past_128 ∷ bad_genvar ∷ unknown_module ∷ bad_override ∷ recursive ∷ []) bad_select e t
+no_rule test e bad_range t = none_passes test (duplicate ∷ not_constant ∷ bad_select ∷ [])
+    (width_past_128 ∷ bad_genvar ∷ unknown_module ∷ bad_override ∷ recursive ∷ []) bad_range e t
+no_rule test e width_past_128 t = none_passes test (duplicate ∷ not_constant ∷ bad_select ∷ bad_range ∷ [])
+    (bad_genvar ∷ unknown_module ∷ bad_override ∷ recursive ∷ []) width_past_128 e t
+no_rule test e bad_genvar t = none_passes test (duplicate ∷ not_constant ∷ bad_select ∷ bad_range ∷ width_past_128 ∷ [])
+    (unknown_module ∷ bad_override ∷ recursive ∷ []) bad_genvar e t
+no_rule test e unknown_module t = none_passes test (duplicate ∷ not_constant ∷ bad_select ∷ bad_range ∷ width_past_128 ∷ bad_genvar ∷ [])
+    (bad_override ∷ recursive ∷ []) unknown_module e t
+no_rule test e bad_override t = none_passes test (duplicate ∷ not_constant ∷ bad_select ∷ bad_range ∷ width_past_128 ∷ bad_genvar ∷ unknown_module ∷ [])
+    (recursive ∷ []) bad_override e t
+no_rule test e recursive t = none_passes test
+    (duplicate ∷ not_constant ∷ bad_select ∷ bad_range ∷ width_past_128 ∷ bad_genvar ∷ unknown_module ∷ bad_override ∷ []) ([]) recursive e t
 
 head_of : {A : Type 0} → A → List A → A
 head_of d [] = d

@@ -102,22 +102,27 @@ mutual
   one (region x) (region y) = walked x y
   one (instances e x) (comes_to f) = (_, refl)
   one (instances e x) (plain f) = never f
-  one {design} {here} {at} {a} (instances {params = params} {made = all} {next = n} {m = m} {vs = vs} e x) {w = w} (instances {number = number'} {next = n'} {m = m'} {vs = ws} f y) =
+  one {design} {here} {at} {a} (instances {params = params} {made = all} {next = n} {m = m} {vs = vs} e x) {w = w}
+      (instances {number = number'} {next = n'} {m = m'} {vs = ws} f y) =
       let q : (number', m') ≡ (_, m) = same _ _ (sym f ∙ e) in
       behind (with_next (past at a [])) (sees (an_item here at a) ∷ []) vs ws n n' w
       (makes x (subst (λ (k : ℕ × Module). AreMade design here at (item_place a) k.0 k.1 (givens (names_here here at) k.1 params) at.next all ws n' w) q y))
   one (loop e x) (comes_to f) = (_, refl)
   one (loop e x) (plain f) = never f
-  one {design} {here} {at} {a} (loop {name = name} {step_name = step_name} {from = from} {test = test} {step = step} {label = label} {places = places} {body = body} {n = n} {next = k} {vs = vs} e x)
+  one {design} {here} {at} {a} (loop {name = name} {step_name = step_name} {from = from} {test = test} {step = step} {label = label} {places = places}
+      {body = body} {n = n} {next = k} {vs = vs} e x)
       {w = w} (loop {n = n'} {next = k'} {vs = ws} f y) =
       behind (with_next (past at a [])) (sees (an_item here at a) ∷ []) vs ws k k' w
-      (passes x (subst (λ (z : ℤ). ArePasses design here (item_place a) (gen_loop name from test step_name step label places body) at z ws k' w) (same _ _ (sym f ∙ e)) y))
+      (passes x (subst (λ (z : ℤ). ArePasses design here (item_place a) (gen_loop name from test step_name step label places body) at z ws k' w)
+      (same _ _ (sym f ∙ e)) y))
   one (choice e x) (comes_to f) = (_, refl)
   one (choice e x) (plain f) = never f
-  one {design} {here} {at} {a} (choice {first = first} {next = k} {body = body} {vs = vs} e x) {w = w} (choice {first = first'} {next = k'} {body = body'} {vs = ws} f y) =
+  one {design} {here} {at} {a} (choice {first = first} {next = k} {body = body} {vs = vs} e x) {w = w}
+      (choice {first = first'} {next = k'} {body = body'} {vs = ws} f y) =
       let q : (first', body') ≡ (first, body) = same _ _ (same _ _ (sym f ∙ e)) in
       behind (with_next (past at a [])) (sees (an_item here at a) ∷ []) vs ws k k' w
-      (blocks x (subst (λ (z : ℕ × GenBody). IsBlock design here at (block_name (names_declared here) (at.construct + 1) (out-GenBody z.1).name) None z.0 (out-GenBody z.1).items ws k' w) q y))
+      (blocks x (subst (λ (z : ℕ × GenBody). IsBlock design here at (block_name (names_declared here) (at.construct + 1) (out-GenBody z.1).name) None z.0
+      (out-GenBody z.1).items ws k' w) q y))
   one (choice e x) (no_choice f) = none_some _ (same _ _ (sym f ∙ e))
   one (no_choice e) (comes_to f) = ([], refl)
   one (no_choice e) (plain f) = never f
@@ -134,7 +139,8 @@ mutual
   passes (last_test e) (ends_at_step f x) = never (same _ _ (sym e ∙ f))
   passes (pass e x s r) ends_at_test = (_, refl)
   passes (pass e x s r) (last_test f) = never (same _ _ (sym f ∙ e))
-  passes {design} {here} {p} {l} {at} {n} (pass {k = k} {by = by} {next = next} {vs = vs} {ws = us} e x s r) {w = w} (pass {k = k'} {by = by'} {next = next'} {vs = vs'} {ws = us'} f y t q) =
+  passes {design} {here} {p} {l} {at} {n} (pass {k = k} {by = by} {next = next} {vs = vs} {ws = us} e x s r) {w = w}
+      (pass {k = k'} {by = by'} {next = next'} {vs = vs'} {ws = us'} f y t q) =
       let b : Front vs vs' by by' true = blocks x y in
       let test : Visit = sees (a_turn p (names_in_pass here at l.name n) l.test) in
       let step : Visit = sees (a_turn p (names_in_pass here at l.name n) l.step) in
@@ -154,24 +160,28 @@ mutual
       let step : Visit = sees (a_turn p (names_in_pass here at l.name n) l.step) in
       append (test ∷ vs) (test ∷ vs') (step ∷ us) (step ∷ []) by next' false (ap (λ (a : Visits). test ∷ a) b.0) (us, refl)
 
-  pub blocks : {design : List Module} {here : Here} {at : At} {name : List ℕ} {genvar : Option Constant} {first : ℕ} {items : List Item} {vs : Visits} {next : ℕ}
+  pub blocks : {design : List Module} {here : Here} {at : At} {name : List ℕ} {genvar : Option Constant} {first : ℕ} {items : List Item} {vs : Visits}
+      {next : ℕ}
       → IsBlock design here at name genvar first items vs next true
       → {ws : Visits} {k : ℕ} {w : Bool} → IsBlock design here at name genvar first items ws k w → Front vs ws next k w
   blocks {here = here} {at = at} {name = name} {genvar = genvar} (block {to = to} {vs = vs} x) {w = w} (block {to = by} {vs = ws} y) =
       behind (λ (a : At). a.next) (entered here at name genvar) vs ws to by w (walked x y)
 
-  pub makes : {design : List Module} {here : Here} {at : At} {p : Place} {number : ℕ} {m : Module} {given : List Given} {n : ℕ} {all : List Instance} {vs : Visits} {next : ℕ}
+  pub makes : {design : List Module} {here : Here} {at : At} {p : Place} {number : ℕ} {m : Module} {given : List Given} {n : ℕ} {all : List Instance}
+      {vs : Visits} {next : ℕ}
       → AreMade design here at p number m given n all vs next true
       → {ws : Visits} {k : ℕ} {w : Bool} → AreMade design here at p number m given n all ws k w → Front vs ws next k w
   makes none_left none_left = (refl, refl)
-  makes {design} {here} {at} {p} {number} {m} {given} {n} (made {by = by} {next = next} {a = a} {more = more} {vs = vs} {ws = us} x xs) {w = w} (made {by = by'} {next = next'} {vs = vs'} {ws = us'} y ys) =
+  makes {design} {here} {at} {p} {number} {m} {given} {n} (made {by = by} {next = next} {a = a} {more = more} {vs = vs} {ws = us} x xs) {w = w}
+      (made {by = by'} {next = next'} {vs = vs'} {ws = us'} y ys) =
       let b : Front vs vs' by by' true = modules x y in
       behind (λ (c : ℕ). c) (made_at here at p n m a) (vs ++ us) (vs' ++ us') next next' w
       (append vs vs' us us' next next' w b.0 (makes xs (subst (λ (c : ℕ). AreMade design here at p number m given c more us' next' w) (sym b.1) ys)))
   makes {here = here} {at = at} {p = p} {m = m} {n = n} (made {by = by} {next = next} {a = a} {vs = vs} {ws = us} x xs) (ends_in {next = next'} {vs = vs'} y) =
       behind (λ (c : ℕ). c) (made_at here at p n m a) (vs ++ us) vs' by next' false (shorter vs vs' us by next' (modules x y))
 
-  pub modules : {design : List Module} {n : ℕ} {parent : Option ℕ} {path : List ℕ} {above : List (List ℕ)} {given : List Given} {number : ℕ} {m : Module} {vs : Visits} {next : ℕ}
+  pub modules : {design : List Module} {n : ℕ} {parent : Option ℕ} {path : List ℕ} {above : List (List ℕ)} {given : List Given} {number : ℕ} {m : Module}
+      {vs : Visits} {next : ℕ}
       → IsModule design n parent path above given number m vs next true
       → {ws : Visits} {k : ℕ} {w : Bool} → IsModule design n parent path above given number m ws k w → Front vs ws next k w
   modules {design} {n} {parent} {path} {above} {given} {number} {m} (entered_module {by = by} {to = to} {vs = vs} {ws = us} h x)
@@ -183,7 +193,8 @@ mutual
       append (e ++ vs ++ ports_seen scope by m.ports) (e ++ vs' ++ ports_seen scope by' m.ports) us us' to.next to'.next w
       (ap (λ (a : Visits). e ++ a ++ ports_seen scope by m.ports) b.0 ∙ ap (λ (c : At). e ++ vs' ++ ports_seen scope c m.ports) b.1)
       (behind (λ (c : At). c.next) [] us us' to to' w f)
-  modules {design} {n} {parent} {path} {above} {given} {number} {m} (entered_module {by = by} {to = to} {vs = vs} {ws = us} h x) (ends_in_header {by = by'} {vs = vs'} i) =
+  modules {design} {n} {parent} {path} {above} {given} {number} {m} (entered_module {by = by} {to = to} {vs = vs} {ws = us} h x)
+      (ends_in_header {by = by'} {vs = vs'} i) =
       let scope : Here = module_scope n path above given number m in
       let e : Visits = module_entered n parent path number m in
       let f : (rest : Visits) × (vs ++ (ports_seen scope by m.ports ++ us) ≡ vs' ++ rest) = shorter vs vs' (ports_seen scope by m.ports

@@ -32,7 +32,8 @@ bits n w sg = record { number = n; width = w; signed = sg; vector = true; low = 
 abbrev env : Environment
 env = record {
   scope = 0;
-  look = λ n. if bytes_eq n (codes "a") then variable (bits 0 4 false) else if bytes_eq n (codes "y") then variable (bits 1 4 false) else if bytes_eq n (codes "i") then variable (bits 2 32 true) else unknown;
+  look = λ n. if bytes_eq n (codes "a") then variable (bits 0 4 false) else if bytes_eq n (codes "y") then variable (bits 1 4 false) else if bytes_eq n
+      (codes "i") then variable (bits 2 32 true) else unknown;
 }
 
 abbrev s : State
@@ -104,7 +105,8 @@ y_is n =
 
 -- what the body does in a pass
 body_is : (n : ℕ) → does body (in_it n) ≡ if_runs 0 (at 20) (meaning_of_object (part (bits 0 4 false) (less (by_itself 32 true true λ s. n) (pos 0)) 1))
-    (sets_later (meaning_of_object (part (bits 1 4 false) (less (by_itself 32 true true λ s. n) (pos 0)) 1)) (record (by_itself 32 true true λ s. 1) { free = 0 })) None
+    (sets_later (meaning_of_object (part (bits 1 4 false) (less (by_itself 32 true true λ s. n) (pos 0)) 1))
+    (record (by_itself 32 true true λ s. 1) { free = 0 })) None
 body_is n =
     ap (λ f. f (in_it n)) (of-If (at 20) bit_a (stmt (at 30) (v.Later bit_y (number 1))))
     ∙ ap₂ (λ m act. if_runs 0 (at 20) m act None) (a_is n)

@@ -22,7 +22,8 @@ abbrev bits4 : ℕ → Bool → Variable
 bits4 n sg = record { number = n; width = 4; signed = sg; vector = true; low = 0; memory = false; word_low = 0 }
 
 abbrev names : List ℕ → Named
-names n = if bytes_eq n (codes "a") then variable (bits4 0 false) else if bytes_eq n (codes "b") then variable (bits4 1 false) else if bytes_eq n (codes "s") then variable (bits4 0 true) else unknown
+names n = if bytes_eq n (codes "a") then variable (bits4 0 false) else if bytes_eq n (codes "b") then variable (bits4 1 false) else if bytes_eq n (codes "s")
+    then variable (bits4 0 true) else unknown
 
 abbrev env : Environment
 env = record { scope = 0; look = names }
@@ -64,7 +65,8 @@ context_unsigned = simp (of-Binary env, of-Name env, of-Number env) refl
 
 -- `{c, t} = a + b`: the value has 5 bits, and the highest goes to the first target
 abbrev c_and_t : List ℕ → Named
-c_and_t n = if bytes_eq n (codes "c") then variable (record (bits4 2 false) { width = 1 }) else if bytes_eq n (codes "t") then variable (bits4 3 false) else names n
+c_and_t n = if bytes_eq n (codes "c") then variable (record (bits4 2 false) { width = 1 }) else if bytes_eq n (codes "t") then variable (bits4 3 false) else
+    names n
 
 abbrev env5 : Environment
 env5 = record { scope = 0; look = c_and_t }
@@ -122,7 +124,8 @@ no_match = simp (of-Name env, of-Number env) refl
 abbrev env8 : Environment
 env8 = record { scope = 0; look = λ n. variable (record (bits4 0 false) { width = 8 }) }
 
-displayed : display_text (Some (codes "n=%0d %h")) (map (meaning env8) (e.Name (codes "n") ∷ e.Name (codes "n") ∷ [])) (record { width = 8; words = 2 ∷ [] } ∷ []) ≡ codes "n=2 02" ++ 10 ∷ []
+displayed : display_text (Some (codes "n=%0d %h")) (map (meaning env8) (e.Name (codes "n") ∷ e.Name (codes "n") ∷ []))
+    (record { width = 8; words = 2 ∷ [] } ∷ []) ≡ codes "n=2 02" ++ 10 ∷ []
 displayed = simp (of-Name env8) refl
 
 -- `%d` of 4 bits has two columns, signed ones too

@@ -106,7 +106,8 @@ module _ {P M : Type 0} (fits : P → M → Bool) (A S : Type 0) (spelled : S �
   apart_many zero s (x ∷ xs) count h = absurd (omega arith)
   apart_many (suc n) s [] count h = absurd (omega arith)
   apart_many (suc n) s (x ∷ xs) count h =
-      apart_via fits (FirstOf A n) (Many A (suc n)) (onto A n) (off A n) (onto_off A n) (first_marks n s) (marks_many (suc n) s) (off_marks n s) (many (suc n) (x ∷ xs) count)
+      apart_via fits (FirstOf A n) (Many A (suc n)) (onto A n) (off A n) (onto_off A n) (first_marks n s) (marks_many (suc n) s) (off_marks n s)
+      (many (suc n) (x ∷ xs) count)
       (after.apart_pair fits A (λ y. Many A n) (spelled s) (λ y. marks_many n (next s y)) x (many n xs (tail_count A n x xs count)) (h.0 s)
       (apart_many n (next s x) xs (tail_count A n x xs count) h.1))
 

@@ -179,7 +179,8 @@ module _ {P M : Type 0} (fits : P → M → Bool) (A S : Type 0) (spelled : S �
         (told s x) f.whole f.split f.front
 
     no_front_back : (s : S) (x : A) → Fronts fits (choice s) (Some x) None → ⊥
-    no_front_back s x f = unlike fits f.given (spelled s x) (ends s) (head s x) (first s) (after_head s x) (after_first s) f.first f.more (begins s x) (end_begins s)
+    no_front_back s x f = unlike fits f.given (spelled s x) (ends s) (head s x) (first s) (after_head s x) (after_first s) f.first f.more (begins s x)
+        (end_begins s)
         (λ p e. not_first s x p e) f.whole f.split f.front
       where
         not_first : (s : S) (x : A) (p : P) → fits p (head s x) ≡ true → fits p (first s) ≡ false

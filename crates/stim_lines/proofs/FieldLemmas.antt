@@ -29,7 +29,8 @@ first-part [] = refl
 first-part (x ∷ xs) = by (first-part xs) (is_blank x) refl
   where
     by : slice_split is_blank xs ≡ take (prefix_len is_field_byte xs) xs ∷ behind (drop (prefix_len is_field_byte xs) xs) → (t : Bool) → is_blank x ≡ t
-        → slice_split is_blank (x ∷ xs) ≡ take (cond (not t) (1 + prefix_len is_field_byte xs) 0) (x ∷ xs) ∷ behind (drop (cond (not t) (1 + prefix_len is_field_byte xs) 0) (x ∷ xs))
+        → slice_split is_blank (x ∷ xs) ≡ take (cond (not t) (1 + prefix_len is_field_byte xs) 0) (x ∷ xs) ∷ behind
+        (drop (cond (not t) (1 + prefix_len is_field_byte xs) 0) (x ∷ xs))
     by more true e = rw e refl
     by more false e = let one : 1 + prefix_len is_field_byte xs ≡ suc (prefix_len is_field_byte xs) = omega arith in rw (e, one, more) refl
 
@@ -53,7 +54,8 @@ pub field-first : (s : List ℕ) (n : ℕ) → n ≡ prefix_len is_field_byte s 
 field-first s n e h l =
     ap (filter is_not_empty) (first-part s)
     ∙ ap (λ (k : ℕ). filter is_not_empty (take k s ∷ behind (drop (prefix_len is_field_byte s) s))) (sym e)
-    ∙ ap (λ (t : Bool). cond t (take n s ∷ filter is_not_empty (behind (drop (prefix_len is_field_byte s) s))) (filter is_not_empty (behind (drop (prefix_len is_field_byte s) s)))) (some-taken s n h l)
+    ∙ ap (λ (t : Bool). cond t (take n s ∷ filter is_not_empty (behind (drop (prefix_len is_field_byte s) s)))
+    (filter is_not_empty (behind (drop (prefix_len is_field_byte s) s)))) (some-taken s n h l)
     ∙ ap (λ (fs : List (List ℕ)). take n s ∷ fs) (fields-behind s ∙ ap (λ (k : ℕ). fields_of (drop k s)) (sym e))
 
 abbrev begins_blank : List ℕ → Bool
@@ -87,7 +89,8 @@ no-field s b n e f z =
 -- the first field of a line, and the fields of what follows
 pub field-taken : (s : List ℕ) (b n : ℕ) → b ≡ prefix_len is_blank s → n ≡ prefix_len is_field_byte (take (length s - b) (drop b s))
     → n ≤ length (take (length s - b) (drop b s)) → 0 < n
-    → fields_of s ≡ take n (take (length s - b) (drop b s)) ∷ fields_of (take (length (take (length s - b) (drop b s)) - n) (drop n (take (length s - b) (drop b s))))
+    → fields_of s ≡ take n (take (length s - b) (drop b s)) ∷ fields_of
+    (take (length (take (length s - b) (drop b s)) - n) (drop n (take (length s - b) (drop b s))))
 field-taken s b n e f within some =
     sym (blanks-dropped s)
     ∙ ap fields_of (sym (rest_is s b e))

@@ -32,7 +32,8 @@ value-at (h ∷ hs) (v ∷ vs) name width e = by (value-at hs vs name width (ome
   where
     by : slice_index (map cell_value vs) (column_of hs name) ≡ value_in (zip hs vs) (record { name = name; width = width }) → (t : Bool) → bytes_eq h name ≡ t
         → slice_index (map cell_value (v ∷ vs)) (cond (not t) (1 + column_of hs name) 0)
-        ≡ option_map_or (λ (cell : List ℕ × List ℕ). cell_value cell.1) (cond t (Some (h, v)) (find (λ (cell : List ℕ × List ℕ). bytes_eq cell.0 name) (zip hs vs))) 0
+        ≡ option_map_or (λ (cell : List ℕ × List ℕ). cell_value cell.1)
+        (cond t (Some (h, v)) (find (λ (cell : List ℕ × List ℕ). bytes_eq cell.0 name) (zip hs vs))) 0
     by more true e = refl
     by more false e = let one : 1 + column_of hs name ≡ suc (column_of hs name) = omega arith in rw one more
 
@@ -87,7 +88,8 @@ same-row : (inputs : List Input) (header : List (List ℕ)) (n : ℕ) (fields : 
 same-row inputs header n fields e = rw (values-named inputs header (value_fields fields) (count-right inputs header n fields e)) refl
 
 pub lays_out : (inputs : List Input) (header : List (List ℕ)) → LaysOut (layout_of inputs header) inputs header
-lays_out inputs header = λ cycles said. rows-agree (laid_fault (layout_of inputs header).widths) (row_fault inputs header) (laid_row (layout_of inputs header)) (row_of inputs header)
+lays_out inputs header = λ cycles said. rows-agree (laid_fault (layout_of inputs header).widths) (row_fault inputs header)
+    (laid_row (layout_of inputs header)) (row_of inputs header)
     (same-fault inputs header) (same-row inputs header) cycles said
 
 pub layout-same : (ws us cs ds : List ℕ) → ws ≡ us → cs ≡ ds → ◌≡◌ {A = Layout} (record { widths = ws; columns = cs }) (record { widths = us; columns = ds })

@@ -80,7 +80,8 @@ own-widths vars (d ∷ ds) differ =
 pub all-named : (inputs : List Input) (n : ℕ) (fields : List (List ℕ)) → header_fault inputs n fields ≡ None
     → list_all (is_among fields) (names_of inputs) ≡ true
 all-named inputs n fields e =
-    test-passed (list_all (is_among fields) (names_of inputs)) (MissingInput n) (none-second (fields_fault inputs n [] fields) (missing_fault inputs n fields) e)
+    test-passed (list_all (is_among fields) (names_of inputs)) (MissingInput n)
+    (none-second (fields_fault inputs n [] fields) (missing_fault inputs n fields) e)
 
 pub own_columns : (vars : List Var) (ds : List design.Input) (header : List (List ℕ)) → list_all (is_among header) (names_of (map (input_of vars) ds)) ≡ true
     → AllPairs (λ (a b : design.Input). a.name ≢ b.name) ds → input_widths (layout_of (map (input_of vars) ds) header)

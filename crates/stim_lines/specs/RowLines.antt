@@ -52,7 +52,8 @@ width_of inputs name = option_map_or (λ (i : Input). i.width) (find (λ (i : In
 
 -- what is wrong with a value in the column of an input
 abbrev pub value_fault : List Input → ℕ → List ℕ × List ℕ → Option StimFault
-value_fault inputs n cell = option_map_or (λ v. if nat_lt v (2 ^ width_of inputs cell.0) then None else Some (TooWide n)) (hexadecimal_of cell.1) (Some (BadValue n))
+value_fault inputs n cell = option_map_or (λ v. if nat_lt v (2 ^ width_of inputs cell.0) then None else Some (TooWide n)) (hexadecimal_of cell.1)
+    (Some (BadValue n))
 
 -- the fault of the leftmost wrong value
 abbrev pub values_fault : List Input → ℕ → List (List ℕ × List ℕ) → Option StimFault
@@ -69,7 +70,8 @@ row_fault inputs header n fields =
 -- the value in the column of an input
 abbrev pub value_in : List (List ℕ × List ℕ) → Input → ℕ
 value_in cells input =
-    option_map_or (λ (cell : List ℕ × List ℕ). option_map_or (λ v. v) (hexadecimal_of cell.1) 0) (find (λ (cell : List ℕ × List ℕ). bytes_eq cell.0 input.name) cells) 0
+    option_map_or (λ (cell : List ℕ × List ℕ). option_map_or (λ v. v) (hexadecimal_of cell.1) 0)
+    (find (λ (cell : List ℕ × List ℕ). bytes_eq cell.0 input.name) cells) 0
 
 abbrev pub row_of : List Input → List (List ℕ) → List (List ℕ) → Row
 row_of inputs header fields = record {

@@ -77,7 +77,8 @@ heard-story story.End n line said more is = absurd is
 comes-line : (step : LineStep) (ended : Bool) (comes : LineStory) (line : List ℕ) (number bytes : ℕ) (before after : Option (List ℕ))
     → GivesTold step line before after → lines_given step line ≡ (line, ended) ∷ []
     → IsStory comes (number + 1) line (says (bytes + bytes_of (line, ended)) (number + 1) (line, ended))
-    → ComesTold comes (spoken (number + 1) (fields_of line)) (option_map (heard number bytes) before) (option_map (heard (number + 1) (bytes + bytes_of (line, ended))) after)
+    → ComesTold comes (spoken (number + 1) (fields_of line)) (option_map (heard number bytes) before)
+    (option_map (heard (number + 1) (bytes + bytes_of (line, ended))) after)
 comes-line step ended comes line number bytes None after gives one said = tt
 comes-line step ended comes line number bytes (Some left) after gives one said =
     let rest = gives.0 in
@@ -85,7 +86,8 @@ comes-line step ended comes line number bytes (Some left) after gives one said =
     let read = first-heard number bytes left rest (line, ended) lines in (
       heard (number + 1) (bytes + bytes_of (line, ended)) rest,
       ap (option_map (heard (number + 1) (bytes + bytes_of (line, ended)))) gives.1,
-      rw read (heard-story comes (number + 1) line (says (bytes + bytes_of (line, ended)) (number + 1) (line, ended)) (all_say (number + 1 + 1) (bytes + bytes_of (line, ended)) (lines_of rest)) said),
+      rw read (heard-story comes (number + 1) line (says (bytes + bytes_of (line, ended)) (number + 1) (line, ended))
+          (all_say (number + 1 + 1) (bytes + bytes_of (line, ended)) (lines_of rest)) said),
     )
 
 -- one line that is refused
@@ -218,7 +220,8 @@ frugal-long text old cutter rest_old rest_new n kept few is s =
 pub tell_comes : (result : Result LineStory StimFault) (step : LineStep) (ended : Bool) (mid old new : LinesState) (rest_old rest_new : Option (List ℕ))
     → GivesTold step mid.cutter.line (left_of old.cutter rest_old) (left_of mid.cutter rest_new)
     → lines_given step mid.cutter.line ≡ (mid.cutter.line, ended) ∷ [] → mid.number ≡ old.number → mid.bytes ≡ old.bytes
-    → IfOk result (λ s. IsStory s (mid.number + 1) mid.cutter.line (says (mid.bytes + bytes_of (mid.cutter.line, ended)) (mid.number + 1) (mid.cutter.line, ended)))
+    → IfOk result (λ s. IsStory s (mid.number + 1) mid.cutter.line
+    (says (mid.bytes + bytes_of (mid.cutter.line, ended)) (mid.number + 1) (mid.cutter.line, ended)))
     → OnOk result (IsNext (bytes_of (mid.cutter.line, ended)) mid new)
     → IfOk result (λ s. ComesTold s (line_said new) (heard_left old rest_old) (heard_left new rest_new))
 tell_comes (Err flaw) step ended mid old new rest_old rest_new gives one number bytes is next = tt
@@ -263,7 +266,8 @@ names-frugal : (number : Option ℕ) (text : List ℕ) (old : LinesState) (step 
     → GivesTold step line (left_of old.cutter rest_old) (left_of cutter rest_new) → length (bytes_given step line) + length cutter.ahead ≤ 65536
     → IfSome number (λ n. n ≡ old.number + 1) → StandsIn text old rest_old → IfSome number (λ n. IsFrugal text rest_new n)
 names-frugal None text old step line cutter rest_old rest_new gives few names s = tt
-names-frugal (Some n) text old step line cutter rest_old rest_new gives few names s = frugal-line text old step line cutter rest_old rest_new n gives few names s
+names-frugal (Some n) text old step line cutter rest_old rest_new gives few names s = frugal-line text old step line cutter rest_old rest_new n gives few
+    names s
 
 -- how much was taken where the line that was given is refused
 pub tell_frugal : (result : Result LineStory StimFault) (step : LineStep) (old : LinesState) (cutter : Cutter) (rest_old rest_new : Option (List ℕ))

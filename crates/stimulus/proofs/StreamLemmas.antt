@@ -46,7 +46,8 @@ tells-said layout cycles n fields row (Some was) after comes said =
     )
 
 -- the row that comes next
-pub tells_row : (result : Result RowStep StimFault) (lines mid : LinesState) (layout : Layout) (cycles : ℕ) (flaw : Option StimFault) (new : ReaderState) (row : Row) (rest_old rest_new : Option (List ℕ))
+pub tells_row : (result : Result RowStep StimFault) (lines mid : LinesState) (layout : Layout) (cycles : ℕ) (flaw : Option StimFault) (new : ReaderState)
+    (row : Row) (rest_old rest_new : Option (List ℕ))
     → flaw ≡ None → ComesTold story.Spoken (line_said mid) (heard_left lines rest_old) (heard_left mid rest_new) → IfOk result (λ s. s ≡ step.Row)
     → OnOk result ((rest : StimText) → row_said layout cycles mid.number (fields_of mid.cutter.line) rest ≡ with_row row rest)
     → OnOk result (new ≡ record { lines = mid; layout = layout; cycles = cycles + row.repeat; fault = flaw })
@@ -64,13 +65,15 @@ refused-said layout cycles n fields fault None after comes said = tt
 refused-said layout cycles n fields fault (Some was) after comes said =
     ap (rows_laid layout cycles) comes.2 ∙ said (rows_laid layout (cycles + (laid_row layout fields).repeat) comes.0)
 
-pub refuses_row : (result : Result RowStep StimFault) (lines mid : LinesState) (layout : Layout) (cycles : ℕ) (flaw : Option StimFault) (rest_old rest_new : Option (List ℕ))
+pub refuses_row : (result : Result RowStep StimFault) (lines mid : LinesState) (layout : Layout) (cycles : ℕ) (flaw : Option StimFault)
+    (rest_old rest_new : Option (List ℕ))
     → flaw ≡ None → ComesTold story.Spoken (line_said mid) (heard_left lines rest_old) (heard_left mid rest_new)
     → IfErr result (λ fault. (rest : StimText) → row_said layout cycles mid.number (fields_of mid.cutter.line) rest ≡ only_fault fault)
     → IfErr result (λ fault. FaultOf (option_map (rows_behind flaw layout cycles) (heard_left lines rest_old)) fault)
 refuses_row (Ok s) lines mid layout cycles flaw rest_old rest_new none comes said = tt
 refuses_row (Err fault) lines mid layout cycles flaw rest_old rest_new none comes said =
-    rw none (λ of_text. refused-said layout cycles mid.number (fields_of mid.cutter.line) fault (heard_left lines rest_old) (heard_left mid rest_new) comes said)
+    rw none (λ of_text. refused-said layout cycles mid.number (fields_of mid.cutter.line) fault (heard_left lines rest_old) (heard_left mid rest_new) comes
+    said)
 
 -- the header that was read
 starts-header : (design : Design) (layout : Layout) (mid : LinesState) (reader : ReaderState) (rest_old rest_new : Option (List ℕ))

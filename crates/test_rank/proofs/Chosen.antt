@@ -56,8 +56,12 @@ pub unchosen-same : (covers : Covers) (c d : ℕ → Bool) (n : ℕ) (rest : Lis
 unchosen-same covers c d n [] same = refl
 unchosen-same covers c d n (ps ∷ rest) same =
     let later = unchosen-same covers c d (n + 1) rest same in
-    rw (same n) (elim (d n) as (λ t. map (λ (t : ℕ × List ℕ). rank_row covers t.0 0 0) (cond (not t) ((n, ps) ∷ filter (λ (t : ℕ × List ℕ). not (c t.0)) (enumerate_from (n + 1) rest)) (filter (λ (t : ℕ × List ℕ). not (c t.0)) (enumerate_from (n + 1) rest)))
-    ≡ map (λ (t : ℕ × List ℕ). rank_row covers t.0 0 0) (cond (not t) ((n, ps) ∷ filter (λ (t : ℕ × List ℕ). not (d t.0)) (enumerate_from (n + 1) rest)) (filter (λ (t : ℕ × List ℕ). not (d t.0)) (enumerate_from (n + 1) rest)))) [
+    rw (same n) (elim (d n) as (λ t. map (λ (t : ℕ × List ℕ). rank_row covers t.0 0 0)
+    (cond (not t) ((n, ps) ∷ filter (λ (t : ℕ × List ℕ). not (c t.0)) (enumerate_from (n + 1) rest))
+    (filter (λ (t : ℕ × List ℕ). not (c t.0)) (enumerate_from (n + 1) rest)))
+    ≡ map (λ (t : ℕ × List ℕ). rank_row covers t.0 0 0)
+    (cond (not t) ((n, ps) ∷ filter (λ (t : ℕ × List ℕ). not (d t.0)) (enumerate_from (n + 1) rest))
+    (filter (λ (t : ℕ × List ℕ). not (d t.0)) (enumerate_from (n + 1) rest)))) [
       | true ↦ later
       | false ↦ ap (λ (rs : List RankRow). rank_row covers n 0 0 ∷ rs) later
     ])

@@ -33,7 +33,8 @@ chain s white name number quote dollar back line block =
     symbol_front (symbol_of s)))))))))
 
 front-is : (s : List ℕ) → 0 < length s → front_of s
-    ≡ chain s (is_white (get_or s 0 0)) (begins_name (get_or s 0 0)) (begins_number (get_or s 0 0)) (eqb (get_or s 0 0) 34) (eqb (get_or s 0 0) 36) (eqb (get_or s 0 0) 96) (starts_with nat_eq s (47 ∷ (47 ∷ []))) (starts_with nat_eq s (47 ∷ (42 ∷ [])))
+    ≡ chain s (is_white (get_or s 0 0)) (begins_name (get_or s 0 0)) (begins_number (get_or s 0 0)) (eqb (get_or s 0 0) 34) (eqb (get_or s 0 0) 36)
+    (eqb (get_or s 0 0) 96) (starts_with nat_eq s (47 ∷ (47 ∷ []))) (starts_with nat_eq s (47 ∷ (42 ∷ [])))
 unfolding front_of
 front-is [] l = absurd (omega arith)
 front-is (b ∷ rest) l = refl
@@ -77,7 +78,8 @@ mark-is : (s : List ℕ) → IsMark s → front_of s
     ≡ chain s false false false false false false (starts_with nat_eq s (47 ∷ (47 ∷ []))) (starts_with nat_eq s (47 ∷ (42 ∷ [])))
 mark-is s m =
     front-is s m.other.whole
-    ∙ rw (m.other.white, m.other.name, m.other.number, ne_eqb (get_or s 0 0) 34 m.quote, ne_eqb (get_or s 0 0) 36 m.dollar, ne_eqb (get_or s 0 0) 96 m.back) refl
+    ∙ rw (m.other.white, m.other.name, m.other.number, ne_eqb (get_or s 0 0) 34 m.quote, ne_eqb (get_or s 0 0) 36 m.dollar, ne_eqb (get_or s 0 0) 96 m.back)
+    refl
 
 pub at-line : (s : List ℕ) → IsMark s → starts_with nat_eq s (47 ∷ (47 ∷ [])) ≡ true → front_of s ≡ line_comment_piece (drop 2 s)
 at-line s m e = mark-is s m ∙ ap (λ (t : Bool). chain s false false false false false false t (starts_with nat_eq s (47 ∷ (42 ∷ [])))) e

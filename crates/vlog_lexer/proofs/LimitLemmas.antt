@@ -42,7 +42,8 @@ operated_is r.Other n m = omega arith
 -- operators since the latest `;`, token by token
 pub operators_next : (kind : TokenKind) (before : List TokenKind) → operators (kind ∷ before) ≡ operated (role_of kind) (braces before) (operators before)
 operators_next kind before =
-    counted_front counts_as_operator (λ token. not (is_semicolon (role_of token.0))) (kind, before) (with_those_before before) (not (is_semicolon (role_of kind)))
+    counted_front counts_as_operator (λ token. not (is_semicolon (role_of token.0))) (kind, before) (with_those_before before)
+    (not (is_semicolon (role_of kind)))
     ∙ operated_is (role_of kind) (braces before) (operators before)
 
 branched_is : (role : Role) (m : ℕ) → cond (not (begins_process role)) (cond (is_branch role) 1 0 + m) 0 ≡ branched role m

@@ -234,7 +234,8 @@ base-capped : (before : ℕ) (size : Option ℕ) (signed : Bool) (base : Option 
     → behind_base before (capped size) signed base text ≡ behind_base before size signed base text
 unfolding behind_base
 base-capped before size signed None text = refl
-base-capped before size signed (Some base) text = ap (counted (before + prefix_len continues_digits text)) (based-capped size signed base (take_while continues_digits text))
+base-capped before size signed (Some base) text = ap (counted (before + prefix_len continues_digits text))
+    (based-capped size signed base (take_while continues_digits text))
 
 sign-capped : (before : ℕ) (size : Option ℕ) (signed : Bool) (text : List ℕ)
     → behind_sign before (capped size) signed text ≡ behind_sign before size signed text

@@ -173,7 +173,8 @@ pub adding_answers : (file : ℕ) (text : List ℕ) (tokens : List Token) (pragm
     → IsRead file text tokens pragmas at
     → front_of (drop at text) ≡ Ok (record { what = what; len = len }) → Refuses (latest tokens) what f → Answers file text (Err f)
 adding_answers file text tokens pragmas at len what fault.NoMemory read front h = tt
-adding_answers file text tokens pragmas at len (m.Token kind) (fault.Limit name) read front h = limit_answers file text tokens pragmas at len kind name read front h
+adding_answers file text tokens pragmas at len (m.Token kind) (fault.Limit name) read front h = limit_answers file text tokens pragmas at len kind name read
+    front h
 adding_answers file text tokens pragmas at len what f read front h = absurd h
 
 -- what the calls of a turn tell
@@ -201,7 +202,8 @@ front_here text at front e = sym (ap front_of (take_rest text at)) ∙ e
 pub piece_bytes : (text : List ℕ) (at n : ℕ) → take at text ++ take n (take (length text - at) (drop at text)) ≡ take (at + n) text
 piece_bytes text at n = ap (λ (xs : List ℕ). take at text ++ take n xs) (take_rest text at) ∙ sym (take-add at n text)
 
-pub read_next : (file : ℕ) (text : List ℕ) (tokens new_tokens : List Token) (pragmas new_pragmas : List Pragma) (at : ℕ) (what : Meaning) (len : ℕ) (place : Place) → IsRead file text tokens pragmas at
+pub read_next : (file : ℕ) (text : List ℕ) (tokens new_tokens : List Token) (pragmas new_pragmas : List Pragma) (at : ℕ) (what : Meaning) (len : ℕ)
+    (place : Place) → IsRead file text tokens pragmas at
     → front_of (drop at text) ≡ Ok (record { what = what; len = len }) → StaysWithin (latest tokens) what → place ≡ place_at file text at
     → new_tokens ≡ tokens ++ token_of place what → new_pragmas ≡ pragmas ++ pragma_of place what → IsRead file text new_tokens new_pragmas (at + len)
 read_next file text tokens new_tokens pragmas new_pragmas at what len place read front stays here e f =

@@ -94,8 +94,10 @@ name_continues name e = second_of_both (begins_with_name name) (list_all continu
 name_means : (name rest : List ℕ) → list_all continues_name name ≡ true → StopsAt continues_name rest → name_piece (name ++ rest) ≡ identifier_means name
 unfolding name_piece
 name_means name rest all stops =
-    ap (λ bytes. if starts_with nat_eq bytes (codes "cov$") then refusal flaw.ReservedName 0 else piece (Token (word_or_name (word_of bytes) bytes)) (prefix_len continues_name (name ++ rest))) (run_taken continues_name name rest all stops)
-    ∙ ap (λ n. if starts_with nat_eq name (codes "cov$") then refusal flaw.ReservedName 0 else piece (Token (word_or_name (word_of name) name)) n) (run_is continues_name name rest all stops)
+    ap (λ bytes. if starts_with nat_eq bytes (codes "cov$") then refusal flaw.ReservedName 0 else piece (Token (word_or_name (word_of bytes) bytes))
+    (prefix_len continues_name (name ++ rest))) (run_taken continues_name name rest all stops)
+    ∙ ap (λ n. if starts_with nat_eq name (codes "cov$") then refusal flaw.ReservedName 0 else piece (Token (word_or_name (word_of name) name)) n)
+    (run_is continues_name name rest all stops)
 
 first_begins : (b : ℕ) (bs : List ℕ) → is_spelled (b ∷ bs) ≡ true → begins_name b ≡ true
 unfolding is_spelled begins_with_name
@@ -225,7 +227,8 @@ bytes_itself : (b : ℕ) (text bytes : List ℕ) → is_plain b ≡ true → byt
 unfolding bytes_of plain_byte
 bytes_itself b [] bytes plain e = ap (λ (t : Bool). behind_first (if t then Some (b, 1) else None) (Ok [])) plain ∙ ap (behind_first (Some (b, 1))) e
 bytes_itself b (c ∷ text) bytes plain e =
-    ap (λ (t : Bool). if t then behind_first (option_map (λ d. (d, 2)) (escaped c)) (bytes_of text) else behind_first (plain_byte b) (bytes_of (c ∷ text))) (is_itself b plain).no_slash
+    ap (λ (t : Bool). if t then behind_first (option_map (λ d. (d, 2)) (escaped c)) (bytes_of text) else behind_first (plain_byte b) (bytes_of (c ∷ text)))
+    (is_itself b plain).no_slash
     ∙ ap (λ (t : Bool). behind_first (if t then Some (b, 1) else None) (bytes_of (c ∷ text))) plain
     ∙ ap (behind_first (Some (b, 1))) e
 
@@ -267,7 +270,9 @@ digit_continues b e = ap (λ t. t || eqb b 95) e
 
 all_decimal : (digits : List ℕ) → is_decimal digits ≡ true → list_all continues_decimal digits ≡ true
 all_decimal [] e = absurd (false≢true e)
-all_decimal (b ∷ bytes) e = ap (λ t. t && list_all continues_decimal bytes) (digit_continues b (first_of_both (is_ascii_digit b) (list_all continues_decimal bytes) e)) ∙ second_of_both (is_ascii_digit b) (list_all continues_decimal bytes) e
+all_decimal (b ∷ bytes) e = ap (λ t. t && list_all continues_decimal bytes)
+    (digit_continues b (first_of_both (is_ascii_digit b) (list_all continues_decimal bytes) e)) ∙ second_of_both (is_ascii_digit b)
+    (list_all continues_decimal bytes) e
 
 number_front_is : (digits rest : List ℕ) → is_decimal digits ≡ true → front_of (digits ++ rest) ≡ number_front (number_of (digits ++ rest))
 number_front_is [] rest e = absurd (false≢true e)
@@ -326,13 +331,15 @@ pub decimals_are_taken : DecimalsAreTaken
 unfolding plain_numeral
 decimals_are_taken digits rest e stops small =
     plain_is digits rest e stops
-    ∙ ap (λ (t : Bool). number_front (if t then Err flaw.NumberTooWide else Ok (numeral 32 true (number_value 10 digits) 0, length digits))) (narrow (number_value 10 digits) small)
+    ∙ ap (λ (t : Bool). number_front (if t then Err flaw.NumberTooWide else Ok (numeral 32 true (number_value 10 digits) 0, length digits)))
+    (narrow (number_value 10 digits) small)
 
 pub wide_decimals : WideDecimals
 unfolding plain_numeral
 wide_decimals digits rest e stops large =
     plain_is digits rest e stops
-    ∙ ap (λ (t : Bool). number_front (if t then Err flaw.NumberTooWide else Ok (numeral 32 true (number_value 10 digits) 0, length digits))) (wide (number_value 10 digits) large)
+    ∙ ap (λ (t : Bool). number_front (if t then Err flaw.NumberTooWide else Ok (numeral 32 true (number_value 10 digits) 0, length digits)))
+    (wide (number_value 10 digits) large)
 
 quote_is : (s : List ℕ) → front_of (39 ∷ s) ≡ number_front (number_of (39 ∷ s))
 unfolding front_of is_white begins_name begins_number

@@ -17,27 +17,35 @@ use Rattle.vlog_words.specs.Words.{word_of}
 
 -- a digit of another base is wrong at the number's first byte
 digit_of_another_base : front_of (codes "4'b2;") ≡ refusal flaw.BadNumber 0
-unfolding front_of is_white begins_name begins_number number_of continues_decimal begins_with_quote behind_quote begins_with_sign behind_sign base_of behind_base based_numeral continues_digits is_free is_bad width_of may_be_free is_in_order is_digit_of digit_value size_of number_value value_digit
+unfolding front_of is_white begins_name begins_number number_of continues_decimal begins_with_quote behind_quote begins_with_sign behind_sign base_of
+    behind_base based_numeral continues_digits is_free is_bad width_of may_be_free is_in_order is_digit_of digit_value size_of number_value value_digit
 digit_of_another_base = refl
 
 -- a wide number of which a digit is wrong is badly spelled
 bad_before_wide : number_of (codes "129'b2") ≡ Err flaw.BadNumber
-unfolding number_of continues_decimal begins_with_quote behind_quote begins_with_sign behind_sign base_of behind_base based_numeral continues_digits is_free is_bad width_of may_be_free is_in_order is_digit_of digit_value size_of number_value value_digit
+unfolding number_of continues_decimal begins_with_quote behind_quote begins_with_sign behind_sign base_of behind_base based_numeral continues_digits is_free
+    is_bad width_of may_be_free is_in_order is_digit_of digit_value size_of number_value value_digit
 bad_before_wide = refl
 
 -- free bits in the middle and at the end, behind an underscore too
 free_digits : number_of (codes "4'b1?0_z") ≡ Ok (numeral 4 false 8 5, 8)
-unfolding number_of continues_decimal begins_with_quote behind_quote begins_with_sign behind_sign base_of behind_base based_numeral continues_digits is_free is_bad is_wide width_of bits_of may_be_free is_in_order is_digit_of is_digit_or_underscore digit_value size_of number_value value_digit free_bits free_digit bits_above
+unfolding number_of continues_decimal begins_with_quote behind_quote begins_with_sign behind_sign base_of behind_base based_numeral continues_digits is_free
+    is_bad is_wide width_of bits_of may_be_free is_in_order is_digit_of is_digit_or_underscore digit_value size_of number_value value_digit free_bits
+    free_digit bits_above
 free_digits = refl
 
 -- a first digit that is free makes the bits above it free
 free_above : number_of (codes "8'b?1") ≡ Ok (numeral 8 false 1 254, 5)
-unfolding number_of continues_decimal begins_with_quote behind_quote begins_with_sign behind_sign base_of behind_base based_numeral continues_digits is_free is_bad is_wide width_of bits_of may_be_free is_in_order is_digit_of is_digit_or_underscore digit_value size_of number_value value_digit free_bits free_digit bits_above
+unfolding number_of continues_decimal begins_with_quote behind_quote begins_with_sign behind_sign base_of behind_base based_numeral continues_digits is_free
+    is_bad is_wide width_of bits_of may_be_free is_in_order is_digit_of is_digit_or_underscore digit_value size_of number_value value_digit free_bits
+    free_digit bits_above
 free_above = refl
 
 -- a value is cut to its size
 cut_to_size : number_of (codes "8'd300 ") ≡ Ok (numeral 8 false 44 0, 6)
-unfolding number_of continues_decimal begins_with_quote behind_quote begins_with_sign behind_sign base_of behind_base based_numeral continues_digits is_free is_bad is_wide width_of bits_of may_be_free is_in_order is_digit_of is_digit_or_underscore digit_value size_of number_value value_digit free_bits free_digit bits_above
+unfolding number_of continues_decimal begins_with_quote behind_quote begins_with_sign behind_sign base_of behind_base based_numeral continues_digits is_free
+    is_bad is_wide width_of bits_of may_be_free is_in_order is_digit_of is_digit_or_underscore digit_value size_of number_value value_digit free_bits
+    free_digit bits_above
 cut_to_size = refl
 
 -- behind a plain decimal a `?` is the operator

@@ -118,7 +118,8 @@ none_else : (c : ℕ) (cs : List ℕ) → (eqb c 97 ≡ false) → (eqb c 98 ≡
     → (eqb c 102 ≡ false) → (eqb c 103 ≡ false) → (eqb c 104 ≡ false) → (eqb c 105 ≡ false) → (eqb c 106 ≡ false) → (eqb c 108 ≡ false) → (eqb c 109 ≡ false)
     → (eqb c 110 ≡ false) → (eqb c 111 ≡ false) → (eqb c 112 ≡ false) → (eqb c 114 ≡ false) → (eqb c 115 ≡ false) → (eqb c 116 ≡ false) → (eqb c 117 ≡ false)
     → (eqb c 118 ≡ false) → (eqb c 119 ≡ false) → (eqb c 120 ≡ false) → None ≡ lookup words (c ∷ cs)
-none_else c cs no_a no_b no_c no_d no_e no_f no_g no_h no_i no_j no_l no_m no_n no_o no_p no_r no_s no_t no_u no_v no_w no_x = simp (no_a, no_b, no_c, no_d, no_e, no_f, no_g, no_h, no_i, no_j, no_l, no_m, no_n, no_o, no_p, no_r, no_s, no_t, no_u, no_v, no_w, no_x) refl
+none_else c cs no_a no_b no_c no_d no_e no_f no_g no_h no_i no_j no_l no_m no_n no_o no_p no_r no_s no_t no_u no_v no_w no_x = simp
+    (no_a, no_b, no_c, no_d, no_e, no_f, no_g, no_h, no_i, no_j, no_l, no_m, no_n, no_o, no_p, no_r, no_s, no_t, no_u, no_v, no_w, no_x) refl
 
 -- a word that begins with none of these letters
 pub elsewhere : (bytes : List ℕ) → get_or bytes 0 0 ≢ 97 → get_or bytes 0 0 ≢ 98 → get_or bytes 0 0 ≢ 99 → get_or bytes 0 0 ≢ 100 → get_or bytes 0 0 ≢ 101
@@ -127,7 +128,11 @@ pub elsewhere : (bytes : List ℕ) → get_or bytes 0 0 ≢ 97 → get_or bytes 
     → get_or bytes 0 0 ≢ 116 → get_or bytes 0 0 ≢ 117 → get_or bytes 0 0 ≢ 118 → get_or bytes 0 0 ≢ 119 → get_or bytes 0 0 ≢ 120 → None ≡ word_of bytes
 unfolding word_of
 elsewhere [] no_a no_b no_c no_d no_e no_f no_g no_h no_i no_j no_l no_m no_n no_o no_p no_r no_s no_t no_u no_v no_w no_x = refl
-elsewhere (c ∷ cs) no_a no_b no_c no_d no_e no_f no_g no_h no_i no_j no_l no_m no_n no_o no_p no_r no_s no_t no_u no_v no_w no_x = none_else c cs (ne_eqb c 97 no_a) (ne_eqb c 98 no_b) (ne_eqb c 99 no_c) (ne_eqb c 100 no_d) (ne_eqb c 101 no_e) (ne_eqb c 102 no_f) (ne_eqb c 103 no_g) (ne_eqb c 104 no_h) (ne_eqb c 105 no_i) (ne_eqb c 106 no_j) (ne_eqb c 108 no_l) (ne_eqb c 109 no_m) (ne_eqb c 110 no_n) (ne_eqb c 111 no_o) (ne_eqb c 112 no_p) (ne_eqb c 114 no_r) (ne_eqb c 115 no_s) (ne_eqb c 116 no_t) (ne_eqb c 117 no_u) (ne_eqb c 118 no_v) (ne_eqb c 119 no_w) (ne_eqb c 120 no_x)
+elsewhere (c ∷ cs) no_a no_b no_c no_d no_e no_f no_g no_h no_i no_j no_l no_m no_n no_o no_p no_r no_s no_t no_u no_v no_w no_x = none_else c cs
+    (ne_eqb c 97 no_a) (ne_eqb c 98 no_b) (ne_eqb c 99 no_c) (ne_eqb c 100 no_d) (ne_eqb c 101 no_e) (ne_eqb c 102 no_f) (ne_eqb c 103 no_g)
+    (ne_eqb c 104 no_h) (ne_eqb c 105 no_i) (ne_eqb c 106 no_j) (ne_eqb c 108 no_l) (ne_eqb c 109 no_m) (ne_eqb c 110 no_n) (ne_eqb c 111 no_o)
+    (ne_eqb c 112 no_p) (ne_eqb c 114 no_r) (ne_eqb c 115 no_s) (ne_eqb c 116 no_t) (ne_eqb c 117 no_u) (ne_eqb c 118 no_v) (ne_eqb c 119 no_w)
+    (ne_eqb c 120 no_x)
 
 pub empty : (bytes : List ℕ) → length bytes < 1 → None ≡ word_of bytes
 unfolding word_of

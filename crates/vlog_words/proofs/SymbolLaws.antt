@@ -83,7 +83,34 @@ two : Each 2 of_two
 two = (refl, (refl, (refl, (refl, (refl, (refl, (refl, (refl, (refl, (refl, (refl, (refl, (refl, (refl, tt))))))))))))))
 
 one : Each 1 of_one
-one = (refl, (refl, (refl, (refl, (refl, (refl, (refl, (refl, (refl, (refl, (refl, (refl, (refl, (refl, (refl, (refl, (refl, (refl, (refl, (refl, (refl, (refl, (refl, (refl, (refl, (refl, tt))))))))))))))))))))))))))
+one = (
+  refl,
+  (
+    refl,
+    (
+      refl,
+      (
+        refl,
+        (
+          refl,
+          (
+            refl,
+            (
+              refl,
+              (
+                refl,
+                (
+                  refl,
+                  (refl, (refl, (refl, (refl, (refl, (refl, (refl, (refl, (refl, (refl, (refl, (refl, (refl, (refl, (refl, (refl, (refl, tt))))))))))))))))),
+                ),
+              ),
+            ),
+          ),
+        ),
+      ),
+    ),
+  ),
+)
 
 -- which table an entry stands in
 data Stands (entry : Entry) : Type 0 where
@@ -158,7 +185,8 @@ longest_from text kind n entry None None None e3 e2 e1 e (in_one is) on = absurd
 pub longest : (text : List ℕ) (kind : TokenKind) (n : ℕ) (entry : Entry) → symbol_of text ≡ Some (kind, n) → IsIn symbols entry → begins text entry ≡ true
     → length entry.0 ≤ n
 unfolding symbol_of
-longest text kind n entry e is on = longest_from text kind n entry (first_at of_three text) (first_at of_two text) (first_at of_one text) refl refl refl e (stands entry is) on
+longest text kind n entry e is on = longest_from text kind n entry (first_at of_three text) (first_at of_two text) (first_at of_one text) refl refl refl e
+    (stands entry is) on
 
 nothing_from : (text : List ℕ) (entry : Entry) (o3 o2 o1 : Option TokenKind) → first_at of_three text ≡ o3 → first_at of_two text ≡ o2
     → first_at of_one text ≡ o1
@@ -172,4 +200,5 @@ nothing_from text entry None None None e3 e2 e1 e (in_one is) on = none_at of_on
 
 pub nothing : (text : List ℕ) (entry : Entry) → symbol_of text ≡ None → IsIn symbols entry → begins text entry ≡ true → ⊥
 unfolding symbol_of
-nothing text entry e is on = nothing_from text entry (first_at of_three text) (first_at of_two text) (first_at of_one text) refl refl refl e (stands entry is) on
+nothing text entry e is on = nothing_from text entry (first_at of_three text) (first_at of_two text) (first_at of_one text) refl refl refl e
+    (stands entry is) on

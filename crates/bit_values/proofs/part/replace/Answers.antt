@@ -33,4 +33,5 @@ returns-clause-value c =
     let distance : c.unsigned_abs-distance.result ≡ unsigned_abs c.args.low = simp to_z-of_z at c.unsigned_abs-distance.ensures.value in
     let before : c.args.low <ℤ pos 0 = omega (arith, ints) in
     let within : c.unsigned_abs-distance.result < c.args.part.width = omega arith in
-    c.placed-2.ensures.value ∙ replace_cut c.args.a.width c.args.a.bits c.args.low c.args.part.width c.args.part.bits c.unsigned_abs-distance.result before distance within
+    c.placed-2.ensures.value ∙ replace_cut c.args.a.width c.args.a.bits c.args.low c.args.part.width c.args.part.bits c.unsigned_abs-distance.result before
+    distance within

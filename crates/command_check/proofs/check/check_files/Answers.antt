@@ -9,9 +9,11 @@ pub returns-then-are_too_many : goal.returns-then-are_too_many
 returns-then-are_too_many g c =
     let names = seen c.args.names.now in
     record {
-      leaves = stops_leave (check_promise names) (g.F.Files.held c.args.files.now) (g.F.Files.held c.args.files.now) _ _ (g.O.Sink.written c.args.out.now) (g.O.Sink.faults c.args.out.now)
+      leaves = stops_leave (check_promise names) (g.F.Files.held c.args.files.now) (g.F.Files.held c.args.files.now) _ _ (g.O.Sink.written c.args.out.now)
+          (g.O.Sink.faults c.args.out.now)
           c.over_limit.result refl refl
-          (many_stop names (g.F.Files.held c.args.files.now) (g.F.Files.faults c.args.files.now) c.over_limit.result (many c.args.names.now (sym c.are_too_many.ensures ∙ c.if-are_too_many.true)) c.over_limit.ensures);
+          (many_stop names (g.F.Files.held c.args.files.now) (g.F.Files.faults c.args.files.now) c.over_limit.result
+          (many c.args.names.now (sym c.are_too_many.ensures ∙ c.if-are_too_many.true)) c.over_limit.ensures);
     }
 
 pub returns-in-Err : goal.returns-in-Err
@@ -19,7 +21,8 @@ returns-in-Err g c =
     let names = seen c.args.names.now in
     let within = few c.args.names.now (sym c.are_too_many.ensures ∙ c.if-are_too_many.false) in
     record {
-      leaves = stops_leave (check_promise names) (g.F.Files.held c.args.files.now) (g.F.Files.held c.read_designs.new.files) _ _ (g.O.Sink.written c.args.out.now) (g.O.Sink.faults c.args.out.now)
+      leaves = stops_leave (check_promise names) (g.F.Files.held c.args.files.now) (g.F.Files.held c.read_designs.new.files) _ _
+          (g.O.Sink.written c.args.out.now) (g.O.Sink.faults c.args.out.now)
           c.in-Err.ending refl c.in-Err.ensures.held (unread_stop names (g.F.Files.held c.args.files.now) _ _ c.in-Err.ending within c.in-Err.ensures.err);
     }
 
@@ -36,8 +39,10 @@ returns g c =
     let names = seen c.args.names.now in
     let within = few c.args.names.now (sym c.are_too_many.ensures ∙ c.if-are_too_many.false) in
     record {
-      leaves = stops_leave (check_promise names) (g.F.Files.held c.args.files.now) (g.F.Files.held c.read_designs.new.files) _ _ (g.O.Sink.written c.args.out.now) (g.O.Sink.faults c.args.out.now)
+      leaves = stops_leave (check_promise names) (g.F.Files.held c.args.files.now) (g.F.Files.held c.read_designs.new.files) _ _
+          (g.O.Sink.written c.args.out.now) (g.O.Sink.faults c.args.out.now)
           c.in-Err-count_modules.ending refl c.in-Ok.ensures.held
-          (refusal_stop c.places_from_one.ensures.fault c.places_from_one.ensures.tokens names c.in-Ok.texts (g.F.Files.held c.args.files.now) _ _ c.in-Err-count_modules.ending within c.in-Ok.ensures.ok_quiet c.in-Ok.ensures.ok
+          (refusal_stop c.places_from_one.ensures.fault c.places_from_one.ensures.tokens names c.in-Ok.texts (g.F.Files.held c.args.files.now) _ _
+          c.in-Err-count_modules.ending within c.in-Ok.ensures.ok_quiet c.in-Ok.ensures.ok
           (rw c.as_slice.ensures at c.in-Err-count_modules.ensures.err));
     }

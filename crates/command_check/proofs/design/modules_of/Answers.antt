@@ -4,7 +4,8 @@ use Rattle.command_check.proofs.RefusalLemmas.{refusal_grammar, refusal_tokens}
 use Rattle.command_check.proofs.design.modules_of.Goals as goal
 
 pub returns-in-Err-clause-err : goal.returns-in-Err-clause-err
-returns-in-Err-clause-err c = refusal_tokens c.args.number c.args.name.now c.args.text.now c.in-Err.fault c.bad_tokens.result c.in-Err.ensures.exact c.bad_tokens.ensures
+returns-in-Err-clause-err c = refusal_tokens c.args.number c.args.name.now c.args.text.now c.in-Err.fault c.bad_tokens.result c.in-Err.ensures.exact
+    c.bad_tokens.ensures
 
 pub returns-in-Err-Syntax-clause-err : goal.returns-in-Err-Syntax-clause-err
 returns-in-Err-Syntax-clause-err c =

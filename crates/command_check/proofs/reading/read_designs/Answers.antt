@@ -11,6 +11,8 @@ pub returns-in-Err-clause-err : goal.returns-in-Err-clause-err
 returns-in-Err-clause-err g c =
     let none : Bor (List ℕ) = record { ref_ptr = (0, 0); now = [] } in
     let unread = rw (c.names.invariant.held, c.names.invariant.faults) at c.in-Err.ensures.err in
-    unread_stops (g.F.Files.held c.args.files.now) (g.F.Files.faults c.args.files.now) (g.F.Files.faults c.read_design.new.files) (seen c.args.names.now) _ _ c.names.texts
-    (get_or c.args.names.now c.names.name-index none).now c.names.left c.in-Err.ending (seen_around c.args.names.now c.names.name-index none c.names-test.true) c.names.invariant.hold c.names.invariant.left
+    unread_stops (g.F.Files.held c.args.files.now) (g.F.Files.faults c.args.files.now) (g.F.Files.faults c.read_design.new.files) (seen c.args.names.now) _ _
+    c.names.texts
+    (get_or c.args.names.now c.names.name-index none).now c.names.left c.in-Err.ending
+    (seen_around c.args.names.now c.names.name-index none c.names-test.true) c.names.invariant.hold c.names.invariant.left
     (seen_within c.args.names.now c.names.name-index none c.names-test.true) unread

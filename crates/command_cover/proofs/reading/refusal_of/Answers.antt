@@ -12,7 +12,8 @@ pub returns-in-BadCount : goal.returns-in-BadCount
 returns-in-BadCount c = refusal_fault c.args.name.now c.args.fault (fault.BadCount c.in-BadCount.line) _ c.in-BadCount.is c.bad_data-in-BadCount.ensures
 
 pub returns-in-LineTooLong : goal.returns-in-LineTooLong
-returns-in-LineTooLong c = refusal_fault c.args.name.now c.args.fault (fault.LineTooLong c.in-LineTooLong.line) _ c.in-LineTooLong.is c.bad_data-in-LineTooLong.ensures
+returns-in-LineTooLong c = refusal_fault c.args.name.now c.args.fault (fault.LineTooLong c.in-LineTooLong.line) _ c.in-LineTooLong.is
+    c.bad_data-in-LineTooLong.ensures
 
 pub returns-in-Limit : goal.returns-in-Limit
 returns-in-Limit c = refusal_fault c.args.name.now c.args.fault (fault.Limit c.in-Limit.limit) _ c.in-Limit.is c.over_limit.ensures

@@ -12,7 +12,8 @@ pub returns-in-Err-store_each : goal.returns-in-Err-store_each
 returns-in-Err-store_each g c =
     let within = rw c.as_slice.ensures.value at c.in-Err-store_each.ensures.within in
     let part = rw c.as_slice.ensures.value at c.in-Err-store_each.ensures.part in
-    store_failed (get_or c.args.stores.items c.in-Err-store_each.at no_file).0 c.line_at.result (name_of_store c.args.stores.items c.in-Err-store_each.at within) c.line_at.ensures
+    store_failed (get_or c.args.stores.items c.in-Err-store_each.at no_file).0 c.line_at.result
+    (name_of_store c.args.stores.items c.in-Err-store_each.at within) c.line_at.ensures
     c.in-Err-store_each.ensures.rose c.in-Ok.ensures.cause.kept c.in-Ok.ensures.put part
 
 pub returns-in-Err : goal.returns-in-Err

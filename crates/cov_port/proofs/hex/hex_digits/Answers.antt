@@ -29,4 +29,7 @@ overflow_mul-value c =
 pub overflow_add-value : goal.overflow_add-value
 overflow_add-value c =
     let i = c.loop-byte.byte-index in
-    record { fits = hex_fit _ (i + 1) (hex_place_more c.loop-byte.value c.from.result i c.loop-byte.invariant.small (omega (arith, c.from.ensures, c.in-Some.ensures.most))) (omega arith) }
+    record {
+      fits = hex_fit _ (i + 1)
+          (hex_place_more c.loop-byte.value c.from.result i c.loop-byte.invariant.small (omega (arith, c.from.ensures, c.in-Some.ensures.most))) (omega arith);
+    }

@@ -12,4 +12,5 @@ returns-in_err-at-clause-none c =
 pub returns-clause-feed : goal.returns-clause-feed
 returns-clause-feed c =
     let found = rw take_rest at c.in_ok-at.ensures in
-    feed_behind c.args.bytes.now c.args.clear c.in_ok-at.at c.requires.within c.requires.clear found.0.high found.1 (λ k below. found.0.before k (omega arith) below)
+    feed_behind c.args.bytes.now c.args.clear c.in_ok-at.at c.requires.within c.requires.clear found.0.high found.1
+    (λ k below. found.0.before k (omega arith) below)

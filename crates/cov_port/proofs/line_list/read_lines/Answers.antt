@@ -8,13 +8,15 @@ use Rattle.cov_port.proofs.line_list.read_lines.Goals as goal
 
 pub returns-in_default : goal.returns-in_default
 returns-in_default c =
-    sym (sym c.runs.invariant ∙ run_wrong c.runs.lines c.runs.rest.now c.place_of-end.result c.place_of-end.ensures.place c.place_of-end.ensures.within (sym c.in_default.ensures))
+    sym (sym c.runs.invariant ∙ run_wrong c.runs.lines c.runs.rest.now c.place_of-end.result c.place_of-end.ensures.place c.place_of-end.ensures.within
+    (sym c.in_default.ensures))
 
 pub returns-then-end-rest : goal.returns-then-end-rest
 returns-then-end-rest c =
     let all : length c.runs.rest.now ≤ c.place_of-end.result = omega (arith, c.if-end-rest.true) in
     rw c.in_ok-push.ensures.ok
-    (sym (sym c.runs.invariant ∙ run_last c.runs.lines c.in-Some.run' c.runs.rest.now c.place_of-end.result c.place_of-end.ensures.place all (sym c.in-Some.ensures)))
+    (sym (sym c.runs.invariant ∙ run_last c.runs.lines c.in-Some.run' c.runs.rest.now c.place_of-end.result c.place_of-end.ensures.place all
+    (sym c.in-Some.ensures)))
 
 pub runs-preserved : goal.runs-preserved
 runs-preserved c =

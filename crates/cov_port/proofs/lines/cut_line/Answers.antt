@@ -6,7 +6,8 @@ use Rattle.cov_port.proofs.lines.cut_line.Goals as goal
 
 pub returns-in-Some-clause-lines : goal.returns-in-Some-clause-lines
 returns-in-Some-clause-lines c = let found = c.in-Some.ensures in
-    rw (take_rest c.args.text.now (c.in-Some.at + 1), add-one) (lines_of-some c.args.text.now c.in-Some.at found.0.high found.1 (λ k below. found.0.before k (omega arith) below))
+    rw (take_rest c.args.text.now (c.in-Some.at + 1), add-one)
+    (lines_of-some c.args.text.now c.in-Some.at found.0.high found.1 (λ k below. found.0.before k (omega arith) below))
 
 pub returns-in-None-clause-lines : goal.returns-in-None-clause-lines
 returns-in-None-clause-lines c = let none = c.in-None.ensures in

@@ -29,6 +29,8 @@ names-preserved c =
     let base = c.base_name.ensures ∙ ap base_name name in
     record {
       so_far = other_name_here names k d c.names-test.true c.names.invariant.so_far
-          (any_here names k d c.base_name.result (get by_bytes c.names.bases c.base_name.result) false base (c.names.invariant.has c.base_name.result) (ap is_some (sym c.in-Ok-None.ensures.old ∙ c.in-Ok-None.field-0-is)));
-      has = bases_here names k d c.names-test.true c.base_name.result (λ q. get by_bytes c.names.bases q) (λ q. get by_bytes c.insert.new.self q) base c.names.invariant.has (λ q. c.in-Ok-None.ensures.updates.0 q);
+          (any_here names k d c.base_name.result (get by_bytes c.names.bases c.base_name.result) false base (c.names.invariant.has c.base_name.result)
+          (ap is_some (sym c.in-Ok-None.ensures.old ∙ c.in-Ok-None.field-0-is)));
+      has = bases_here names k d c.names-test.true c.base_name.result (λ q. get by_bytes c.names.bases q) (λ q. get by_bytes c.insert.new.self q) base
+          c.names.invariant.has (λ q. c.in-Ok-None.ensures.updates.0 q);
     }

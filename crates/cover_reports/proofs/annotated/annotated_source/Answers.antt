@@ -9,5 +9,7 @@ returns-in-Err-clause-err g c =
 
 pub returns-clause-err : goal.returns-clause-err
 returns-clause-err g c =
-    short_stops (g.F.Files.held c.args.files.now) (ordered c.args.report.now) c.args.left c.args.name.now c.in-Ok.source c.in-Err-annotate.fault _ _ c.short_refusal.result
-    c.in-Ok.ensures.ok_quiet c.in-Ok.ensures.ok c.in-Ok.ensures.within (rw (c.as_slice.ensures, sym c.requires.name) at c.in-Err-annotate.ensures.fault) c.short_refusal.ensures
+    short_stops (g.F.Files.held c.args.files.now) (ordered c.args.report.now) c.args.left c.args.name.now c.in-Ok.source c.in-Err-annotate.fault _ _
+    c.short_refusal.result
+    c.in-Ok.ensures.ok_quiet c.in-Ok.ensures.ok c.in-Ok.ensures.within (rw (c.as_slice.ensures, sym c.requires.name) at c.in-Err-annotate.ensures.fault)
+    c.short_refusal.ensures

@@ -14,4 +14,5 @@ returns-in-Ok-clause-names c = names_sound c.args.options.now (entries (count_ma
 
 pub returns-in-Err-clause-refused : goal.returns-in-Err-clause-refused
 returns-in-Err-clause-refused c =
-    counts_refused c.args.options.now (entries (count_map c.args.merged.now)) c.in-Err.fault c.refused_report.result c.in-Err.ensures.fault c.refused_report.ensures
+    counts_refused c.args.options.now (entries (count_map c.args.merged.now)) c.in-Err.fault c.refused_report.result c.in-Err.ensures.fault
+    c.refused_report.ensures

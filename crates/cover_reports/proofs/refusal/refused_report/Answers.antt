@@ -7,7 +7,8 @@ use Rattle.cover_reports.proofs.SourceLemmas.{told}
 use Rattle.cover_reports.proofs.refusal.refused_report.Goals as goal
 
 pub returns-in-BadKeyLine : goal.returns-in-BadKeyLine
-returns-in-BadKeyLine c = told c.bad_file.result c.args.fault (bad_file (codes "BadKeyLine") c.in-BadKeyLine.file) (ap answer_to c.in-BadKeyLine.is) (rw c.as_slice.ensures at c.bad_file.ensures)
+returns-in-BadKeyLine c = told c.bad_file.result c.args.fault (bad_file (codes "BadKeyLine") c.in-BadKeyLine.file) (ap answer_to c.in-BadKeyLine.is)
+    (rw c.as_slice.ensures at c.bad_file.ensures)
 
 pub returns-in-BadFileName : goal.returns-in-BadFileName
 returns-in-BadFileName c =

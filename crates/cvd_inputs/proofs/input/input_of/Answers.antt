@@ -54,7 +54,8 @@ returns c = λ all before i seen stand h name.
     let above = ap (is_behind nat_lt c.args.last) (sym same) ∙ sym c.is_behind.ensures ∙ c.if-not-is_behind.false in
     let other = ap (λ n. not (has_name c.args.names.now n)) (sym name) ∙ ap not (sym c.has_name.ensures ∙ c.if-has_name.false) in (
       both_hold (((is_plain_var d i.var && same_kind (var_of d i.var).kind kind.Input) && names.is_name i.name) && _) _
-          (both_hold ((is_plain_var d i.var && same_kind (var_of d i.var).kind kind.Input) && names.is_name i.name) _ (both_hold _ (names.is_name i.name) input named)
+          (both_hold ((is_plain_var d i.var && same_kind (var_of d i.var).kind kind.Input) && names.is_name i.name) _
+          (both_hold _ (names.is_name i.name) input named)
           (told_before vars before i c.args.last c.args.names.now seen ∙ both_hold (is_behind nat_lt c.args.last i.var) _ above other))
           (ap (λ b. nat_lt (length before + 1) all || b) (all_by_length vars before i c.args.last c.args.names.now seen above among) ∙ sym stand
           ∙ c.if-not-may_stand.false),

@@ -29,7 +29,8 @@ returns-in_err-var-2 c = λ all before seen stand.
     let n = c.in_ok-name.ensures in
     let j = c.input_of-found.ensures all before (input_by (a.0, n.0)) seen stand a.1.1 n.1.1 in
     let p = err_from_is_err_and c.from_residual-in_err-var-2.result c.from_residual-in_err-var-2.ensures.1 in
-    rw (p.1, p.2) (refused_end input_tokens (may_be_input c.args.vars.now all before) apart_input c.args.cursor.now c.read_name.new.cursor _ (input_by (a.0, n.0)) _
+    rw (p.1, p.2) (refused_end input_tokens (may_be_input c.args.vars.now all before) apart_input c.args.cursor.now c.read_name.new.cursor _
+    (input_by (a.0, n.0)) _
     (takes_input c.args.cursor.now _ _ a.0 n.0 a.1.0 n.1.0)
     (subst (λ s. Refused (line_marks s) c.read_name.new.cursor c.in_err-var-2.field-0.0 c.close.new.cursor)
     (is_found c.args.vars.now all before (input_by (a.0, n.0)) c.input_of-found.result j) c.in_err-var-2.ensures))
@@ -44,7 +45,8 @@ returns c = λ all before seen stand.
     let takes =
     takes_line input_tokens (may_be_input c.args.vars.now all before) c.args.cursor.now c.read_name.new.cursor c.close.new.cursor i
     (takes_input c.args.cursor.now _ _ a.0 n.0 a.1.0 n.1.0)
-    (subst (λ s. Takes (line_marks s) c.read_name.new.cursor c.close.new.cursor tt) (is_found c.args.vars.now all before i c.input_of-found.result j) closed.1.0) in
+    (subst (λ s. Takes (line_marks s) c.read_name.new.cursor c.close.new.cursor tt) (is_found c.args.vars.now all before i c.input_of-found.result j)
+    closed.1.0) in
     let holds = stood input_tokens (may_be_input c.args.vars.now all before) c.args.cursor.now c.close.new.cursor i takes in
     let var = var_found c.args.vars.now all before i c.input_of-found.result c.in_ok-var-2.var closed.1.1 j in (
       i,

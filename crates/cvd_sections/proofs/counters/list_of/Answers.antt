@@ -7,7 +7,8 @@ use Rattle.cvd_sections.proofs.counters.list_of.Goals as goal
 pub parts-init : goal.parts-init
 parts-init c =
     let other : bytes_eq c.args.word.now (codes "-") ≡ false = sym (c.if-eq.ensures ∙ ap (bytes_eq c.args.word.now) c.as_slice.ensures) in
-    subst (λ k. ListSoFar c.args.counters c.args.word.now c.args.word.now k) (sym c.new-kept.ensures) (list_begins c.args.counters c.args.word.now c.requires other)
+    subst (λ k. ListSoFar c.args.counters c.args.word.now c.args.word.now k) (sym c.new-kept.ensures)
+    (list_begins c.args.counters c.args.word.now c.requires other)
 
 pub counter_of-requires : goal.counter_of-requires
 counter_of-requires c = next_numeral c.args.counters c.args.word.now c.parts.rest.now c.parts.kept c.parts.invariant c.in-Some.at c.in-Some.ensures
@@ -24,7 +25,8 @@ pub parts-preserved : goal.parts-preserved
 parts-preserved c =
     let rest = c.parts.rest.now in
     let some = subst (HoldsNumber c.args.counters (take c.in-Some.at rest)) c.in-Some-counter_of.is c.counter_of.ensures in
-    subst (λ k. ListSoFar c.args.counters c.args.word.now (take (length rest - (c.in-Some.at + 1)) (drop (c.in-Some.at + 1) rest)) k) (sym c.in_ok-push.ensures.ok)
+    subst (λ k. ListSoFar c.args.counters c.args.word.now (take (length rest - (c.in-Some.at + 1)) (drop (c.in-Some.at + 1) rest)) k)
+    (sym c.in_ok-push.ensures.ok)
     (list_goes_on c.args.counters c.args.word.now rest c.parts.kept c.parts.invariant c.in-Some.at c.in-Some-counter_of.counter c.in-Some.ensures some.0 some.1)
 
 pub counter_of-requires-2 : goal.counter_of-requires-2

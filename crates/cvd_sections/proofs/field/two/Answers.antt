@@ -15,7 +15,8 @@ pub returns-in_err-second : goal.returns-in_err-second
 returns-in_err-second c =
     let a = c.in_ok-first.ensures in
     let p = err_from_is_err_and c.from_residual-in_err-second.result c.from_residual-in_err-second.ensures.1 in
-    rw (p.1, p.2) (refused_second ℕ (λ n. ℕ) (marks number_tokens) (λ n. marks number_tokens) a.0 (apart_number a.0) c.args.cursor.now _ _ _ a.1.0 c.in_err-second.ensures)
+    rw (p.1, p.2) (refused_second ℕ (λ n. ℕ) (marks number_tokens) (λ n. marks number_tokens) a.0 (apart_number a.0) c.args.cursor.now _ _ _ a.1.0
+    c.in_err-second.ensures)
 
 pub returns : goal.returns
 returns c =

@@ -16,7 +16,8 @@ pub returns-in_err-minus : goal.returns-in_err-minus
 returns-in_err-minus c =
     let a = c.in_ok-plus.ensures in
     let p = err_from_is_err_and c.from_residual-in_err-minus.result c.from_residual-in_err-minus.ensures.1 in
-    rw (p.1, p.2) (refused_second (List ℕ) (λ n. List ℕ) (marks counters_tokens) (λ n. marks counters_tokens) a.0 (apart_counters a.0) c.args.cursor.now _ _ _ a.1.0
+    rw (p.1, p.2) (refused_second (List ℕ) (λ n. List ℕ) (marks counters_tokens) (λ n. marks counters_tokens) a.0 (apart_counters a.0) c.args.cursor.now _ _
+    _ a.1.0
     c.in_err-minus.ensures)
 
 pub returns : goal.returns

@@ -21,16 +21,19 @@ pub returns-in_err-end_line : goal.returns-in_err-end_line
 returns-in_err-end_line c =
     let a = c.in_ok-count.ensures in
     let p = err_from_is_err_and c.from_residual-in_err-end_line.result c.from_residual-in_err-end_line.ensures.1 in
-    rw (p.1, p.2) (heading_broken Var Load var_marks behind_var (λ n. no_load) (codes "vars") (λ n. true) section alike some_var c.args.cursor.now _ _ a.0 _ a.1.0
+    rw (p.1, p.2) (heading_broken Var Load var_marks behind_var (λ n. no_load) (codes "vars") (λ n. true) section alike some_var c.args.cursor.now _ _ a.0 _
+    a.1.0
     c.in_err-end_line.ensures)
 
 pub loop-count-init : goal.loop-count-init
 loop-count-init c =
     let a = c.in_ok-count.ensures in
     record {
-      goes = subst (λ l. Goes Var Load var_marks behind_var (λ n. no_load) (codes "vars") (λ n. true) section c.args.cursor.now c.end_line.new.self c.in_ok-count.count
+      goes = subst (λ l. Goes Var Load var_marks behind_var (λ n. no_load) (codes "vars") (λ n. true) section c.args.cursor.now c.end_line.new.self
+          c.in_ok-count.count
           (λ n. load_of 0) l) (sym c.new-vars.ensures)
-          (starts Var Load var_marks behind_var (λ n. no_load) (codes "vars") (λ n. true) section c.args.cursor.now c.read_heading.new.cursor c.end_line.new.self a.0
+          (starts Var Load var_marks behind_var (λ n. no_load) (codes "vars") (λ n. true) section c.args.cursor.now c.read_heading.new.cursor
+          c.end_line.new.self a.0
           c.in_ok-count.count a.1.1 a.1.0 c.in_ok-end_line.ensures.1.0);
       bits = sym (ap bits_of c.new-vars.ensures);
       within = omega arith;
@@ -43,7 +46,8 @@ returns-in_err-next c =
     let g = l.invariant.goes in
     let less = more_left (length l.vars) g.n (sym c.loop-count-test.true ∙ c.wants_more.ensures g.n g.count ∙ ap (λ k. nat_lt k g.n) c.len.ensures) in
     let p = err_from_is_err_and c.from_residual-in_err-next.result c.from_residual-in_err-next.ensures.1 in
-    rw (p.1, p.2) (one_refused Var Load var_marks behind_var (λ n. no_load) (codes "vars") (λ n. true) section alike some_var apart_rows c.args.cursor.now l.cursor _
+    rw (p.1, p.2) (one_refused Var Load var_marks behind_var (λ n. no_load) (codes "vars") (λ n. true) section alike some_var apart_rows c.args.cursor.now
+    l.cursor _
     c.in_ok-count.count (λ n. load_of l.bits) l.vars _ g less c.in_err-next.ensures)
 
 pub loop-count-preserved : goal.loop-count-preserved
@@ -58,7 +62,8 @@ loop-count-preserved c =
     let bits = r.1.1.1 in
     let some = r.1.1.3 in
     record {
-      goes = subst (λ (k : List Var). Goes Var Load var_marks behind_var (λ n. no_load) (codes "vars") (λ n. true) section c.args.cursor.now c.read_var.new.cursor
+      goes = subst (λ (k : List Var). Goes Var Load var_marks behind_var (λ n. no_load) (codes "vars") (λ n. true) section c.args.cursor.now
+          c.read_var.new.cursor
           c.in_ok-count.count (λ n. load_of c.in_ok-next.next.1) k) (sym pushed)
           (subst (λ b. Goes Var Load var_marks behind_var (λ n. no_load) (codes "vars") (λ n. true) section c.args.cursor.now c.read_var.new.cursor
           c.in_ok-count.count (λ n. load_of b) (l.vars ++ r.0 ∷ [])) (sym bits)

@@ -10,7 +10,8 @@ loop-word-preserved c =
     let s = c.args.span in
     let w = c.loop-word.word in
     subst (AreCleared d (up_to s (w + 1) ∷ []) c.args.state.now)
-    (sym (c.write_part.ensures ∙ ap (written c.loop-word.state) (zeros_part s w _ _ _ _ c.from.ensures c.from-in-loop-word.ensures c.new-zero.ensures.width c.new-zero.ensures.value)))
+    (sym (c.write_part.ensures ∙ ap (written c.loop-word.state)
+    (zeros_part s w _ _ _ _ c.from.ensures c.from-in-loop-word.ensures c.new-zero.ensures.width c.new-zero.ensures.value)))
     (next_word d s c.requires.span.places c.args.state.now c.loop-word.state w (omega arith) c.loop-word.invariant)
 
 pub returns : goal.returns

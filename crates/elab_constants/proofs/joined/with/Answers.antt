@@ -19,7 +19,8 @@ returns-else-from-gt128 c = λ ms m h s.
     let all = c.concat.result in
     let high = c.in-Value.high in
     let part = c.own-part.result in
-    after_some ms m high.width high.bits part.width part.bits all.width all.bits j.0 j.1 (omega (arith, c.own-part.ensures.width, s.size)) (c.own-part.ensures.value m s)
+    after_some ms m high.width high.bits part.width part.bits all.width all.bits j.0 j.1 (omega (arith, c.own-part.ensures.width, s.size))
+    (c.own-part.ensures.value m s)
     c.concat.ensures.width c.concat.ensures.value
 
 pub returns-in-Past128 : goal.returns-in-Past128

@@ -7,5 +7,6 @@ returns-in-Err c = λ env t a b ht ha hb.
 
 pub returns-in-Ok : goal.returns-in-Ok
 returns-in-Ok c = λ env t a b ht ha hb.
-    choice_reads env t a b c.args.test c.args.yes c.args.no c.both-arms.result c.both-all.result _ c.choose.result c.both-arms.ensures c.both-all.ensures c.in-Ok.is ht ha hb
+    choice_reads env t a b c.args.test c.args.yes c.args.no c.both-arms.result c.both-all.result _ c.choose.result c.both-arms.ensures c.both-all.ensures
+    c.in-Ok.is ht ha hb
     c.choose.ensures

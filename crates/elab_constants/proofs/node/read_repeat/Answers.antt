@@ -7,5 +7,6 @@ returns-in-Err c = λ env r rs h k.
 
 pub returns-in-Ok : goal.returns-in-Ok
 returns-in-Ok c = λ env r rs h k.
-    repeat_reads env r rs c.read_count-count.result c.args.parts c.both-all.result _ c.repeat.result c.both-all.ensures c.in-Ok.is (c.read_count-count.ensures r h) k
+    repeat_reads env r rs c.read_count-count.result c.args.parts c.both-all.result _ c.repeat.result c.both-all.ensures c.in-Ok.is
+    (c.read_count-count.ensures r h) k
     (c.repeat.ensures env r rs)

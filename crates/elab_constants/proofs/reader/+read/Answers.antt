@@ -4,7 +4,8 @@ use Rattle.elab_constants.proofs.reader.+read.Goals as goal
 pub read-returns-in-Number : goal.read-returns-in-Number
 read-returns-in-Number g t c =
     let env = g.N.Names.environment c.args.names.now in
-    node.in_number env c.args.expr.now c.in-Number.width c.in-Number.signed c.in-Number.value _ c.read_number.result c.in-Number.is (c.read_number.ensures env _)
+    node.in_number env c.args.expr.now c.in-Number.width c.in-Number.signed c.in-Number.value _ c.read_number.result c.in-Number.is
+    (c.read_number.ensures env _)
 
 pub read-returns-in-Select : goal.read-returns-in-Select
 read-returns-in-Select g t c =
@@ -28,7 +29,8 @@ read-returns-in-Binary g t c =
 pub read-returns-in-Choose : goal.read-returns-in-Choose
 read-returns-in-Choose g t c =
     let env = g.N.Names.environment c.args.names.now in
-    node.in_choose env c.args.expr.now c.in-Choose.test c.get-in-Choose.result.now c.in-Choose.yes c.get-in-Choose-2.result.now c.in-Choose.no c.get-in-Choose-3.result.now
+    node.in_choose env c.args.expr.now c.in-Choose.test c.get-in-Choose.result.now c.in-Choose.yes c.get-in-Choose-2.result.now c.in-Choose.no
+    c.get-in-Choose-3.result.now
     c.read-in-Choose.result c.read-in-Choose-2.result c.read-in-Choose-3.result c.read_choice.result
     c.in-Choose.is c.get-in-Choose.ensures c.get-in-Choose-2.ensures c.get-in-Choose-3.ensures
     c.read-in-Choose.ensures c.read-in-Choose-2.ensures c.read-in-Choose-3.ensures (c.read_choice.ensures env)

@@ -16,5 +16,6 @@ returns-in_default c = λ a s.
     let op = c.args.op in
     let bits = c.own.result in
     reduction_is op a c.number.result c.in_default.not-Plus c.in_default.not-Minus c.in_default.not-Complement
-    (number_is 1 (reduction op a.size (own a [])) false c.number.result c.reduction.result.width c.reduction.result.bits c.number.ensures c.reduction.ensures.width
+    (number_is 1 (reduction op a.size (own a [])) false c.number.result c.reduction.result.width c.reduction.result.bits c.number.ensures
+    c.reduction.ensures.width
     (c.reduction.ensures.value ∙ ap (λ w. reduction op w bits.bits) (c.own.ensures.width ∙ s.size) ∙ ap (reduction op a.size) (c.own.ensures.value a s)))

@@ -13,5 +13,6 @@ loop-reg-preserved g c = λ known here.
 
 pub returns : goal.returns
 returns g c = λ known here.
-    subst (λ (rs : List RegName). Finds (Large known (filter_map (λ (r : RegName). r.words) rs)) (memory_flaws known (filter_map (λ (r : RegName). r.words) rs)) c.loop-reg.so_far)
+    subst (λ (rs : List RegName). Finds (Large known (filter_map (λ (r : RegName). r.words) rs))
+    (memory_flaws known (filter_map (λ (r : RegName). r.words) rs)) c.loop-reg.so_far)
     (take_all c.loop-reg.reg-index c.args.regs.now c.loop-reg-test.false) (c.loop-reg.invariant known here)

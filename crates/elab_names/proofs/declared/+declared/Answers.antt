@@ -7,23 +7,28 @@ with_item-returns-in-Wire t c =
 
 pub with_item-returns-in-Reg : goal.with_item-returns-in-Reg
 with_item-returns-in-Reg t c =
-    in_Reg _ _ c.in-Reg.names c.args.item.now c.as_slice-in-Reg.result.now c.args.before c.with_all-in-Reg.result c.in-Reg.is c.as_slice-in-Reg.ensures c.with_all-in-Reg.ensures
+    in_Reg _ _ c.in-Reg.names c.args.item.now c.as_slice-in-Reg.result.now c.args.before c.with_all-in-Reg.result c.in-Reg.is c.as_slice-in-Reg.ensures
+    c.with_all-in-Reg.ensures
 
 pub with_item-returns-in-Integer : goal.with_item-returns-in-Integer
 with_item-returns-in-Integer t c =
-    in_Integer c.in-Integer.names c.args.item.now c.as_slice-in-Integer.result.now c.args.before c.with_all-in-Integer.result c.in-Integer.is c.as_slice-in-Integer.ensures c.with_all-in-Integer.ensures
+    in_Integer c.in-Integer.names c.args.item.now c.as_slice-in-Integer.result.now c.args.before c.with_all-in-Integer.result c.in-Integer.is
+    c.as_slice-in-Integer.ensures c.with_all-in-Integer.ensures
 
 pub with_item-returns-in-Genvar : goal.with_item-returns-in-Genvar
 with_item-returns-in-Genvar t c =
-    in_Genvar c.in-Genvar.names c.args.item.now c.as_slice-in-Genvar.result.now c.args.before c.with_all-in-Genvar.result c.in-Genvar.is c.as_slice-in-Genvar.ensures c.with_all-in-Genvar.ensures
+    in_Genvar c.in-Genvar.names c.args.item.now c.as_slice-in-Genvar.result.now c.args.before c.with_all-in-Genvar.result c.in-Genvar.is
+    c.as_slice-in-Genvar.ensures c.with_all-in-Genvar.ensures
 
 pub with_item-returns-in-Parameter : goal.with_item-returns-in-Parameter
 with_item-returns-in-Parameter t c =
-    in_Parameter _ _ c.in-Parameter.names c.args.item.now c.as_slice-in-Parameter.result.now c.args.before c.with_all-in-Parameter.result c.in-Parameter.is c.as_slice-in-Parameter.ensures c.with_all-in-Parameter.ensures
+    in_Parameter _ _ c.in-Parameter.names c.args.item.now c.as_slice-in-Parameter.result.now c.args.before c.with_all-in-Parameter.result c.in-Parameter.is
+    c.as_slice-in-Parameter.ensures c.with_all-in-Parameter.ensures
 
 pub with_item-returns-in-Instances : goal.with_item-returns-in-Instances
 with_item-returns-in-Instances t c =
-    in_Instances _ _ c.in-Instances.made c.args.item.now c.as_slice-in-Instances.result.now c.args.before c.with_all-in-Instances.result c.in-Instances.is c.as_slice-in-Instances.ensures c.with_all-in-Instances.ensures
+    in_Instances _ _ c.in-Instances.made c.args.item.now c.as_slice-in-Instances.result.now c.args.before c.with_all-in-Instances.result c.in-Instances.is
+    c.as_slice-in-Instances.ensures c.with_all-in-Instances.ensures
 
 pub with_item-returns-in-Generate : goal.with_item-returns-in-Generate
 with_item-returns-in-Generate t c =

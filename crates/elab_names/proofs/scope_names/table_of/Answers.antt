@@ -14,4 +14,5 @@ loop-name-preserved c =
     (tabled (take i names) c.loop-name.table c.put.new.self d c.as_slice.result.now d.kind c.as_slice.ensures refl c.loop-name.invariant c.in_ok-put.ensures.ok)
 
 pub returns : goal.returns
-returns c = subst (λ (l : List DeclaredName). IsTableOf l c.loop-name.table) (take_all c.loop-name.name-index c.args.declared.now c.loop-name-test.false) c.loop-name.invariant
+returns c = subst (λ (l : List DeclaredName). IsTableOf l c.loop-name.table) (take_all c.loop-name.name-index c.args.declared.now c.loop-name-test.false)
+    c.loop-name.invariant

@@ -7,4 +7,5 @@ loop-value-preserved g c = λ known env.
     c.loop-value-test.true c.value-item.is (c.loop-value.invariant known env) (λ before w h. c.with_connection-given.ensures known before w env h)
 
 pub returns : goal.returns
-returns g c = λ known env. all_by_name known c.args.values.now c.loop-value.value-index c.loop-value.given c.loop-value-test.false (c.loop-value.invariant known env)
+returns g c = λ known env. all_by_name known c.args.values.now c.loop-value.value-index c.loop-value.given c.loop-value-test.false
+    (c.loop-value.invariant known env)

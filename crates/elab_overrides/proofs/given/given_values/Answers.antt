@@ -8,5 +8,6 @@ returns-in-Ordered g c = λ known env.
 
 pub returns-in-Named : goal.returns-in-Named
 returns-in-Named g c = λ known env.
-    of_named known c.args.parameters.now c.args.values.now c.in-Named.values c.as_slice-in-Named.result.now c.by_name.result c.in-Named.is c.as_slice-in-Named.ensures
+    of_named known c.args.parameters.now c.args.values.now c.in-Named.values c.as_slice-in-Named.result.now c.by_name.result c.in-Named.is
+    c.as_slice-in-Named.ensures
     (c.by_name.ensures known env)

@@ -12,7 +12,8 @@ returns-then-value-lt0 c =
     ∙ ap unsigned_abs (to_z-of_z w32 c.args.value c.ranges.value) in
     subst (λ (l : List ℕ). OnOk c.put_number.result (c.put_number.new.text ≡ l))
     (ap (λ (l : List ℕ). l ++ decimal_text n) c.in_ok-append.ensures.ok ∙ append_assoc c.args.text.now (45 ∷ []) (decimal_text n)
-    ∙ ap (λ (l : List ℕ). c.args.text.now ++ l) (negative c.args.value n (subst (λ (z : ℤ). int_lt z (pos 0) ≡ true) (to_z-of_z w32 c.args.value c.ranges.value) c.if-value-lt0.true) e)) c.put_number.ensures
+    ∙ ap (λ (l : List ℕ). c.args.text.now ++ l) (negative c.args.value n (subst (λ (z : ℤ). int_lt z (pos 0)
+    ≡ true) (to_z-of_z w32 c.args.value c.ranges.value) c.if-value-lt0.true) e)) c.put_number.ensures
 
 pub returns : goal.returns
 returns c =
@@ -20,4 +21,5 @@ returns c =
     let e : n ≡ unsigned_abs c.args.value = c.from-number.ensures ∙ c.unsigned_abs.ensures.value
     ∙ ap unsigned_abs (to_z-of_z w32 c.args.value c.ranges.value) in
     subst (λ (l : List ℕ). OnOk c.put_number-2.result (c.put_number-2.new.text ≡ l))
-    (ap (λ (l : List ℕ). c.args.text.now ++ l) (positive c.args.value n (subst (λ (z : ℤ). int_lt z (pos 0) ≡ false) (to_z-of_z w32 c.args.value c.ranges.value) c.if-value-lt0.false) e)) c.put_number-2.ensures
+    (ap (λ (l : List ℕ). c.args.text.now ++ l) (positive c.args.value n (subst (λ (z : ℤ). int_lt z (pos 0)
+    ≡ false) (to_z-of_z w32 c.args.value c.ranges.value) c.if-value-lt0.false) e)) c.put_number-2.ensures

@@ -26,13 +26,15 @@ step_needs-returns-in-Later t c d k of ok =
 pub step_needs-steps_need-requires : goal.step_needs-steps_need-requires
 step_needs-steps_need-requires t c = (
   first_of (search (rules, the_lemmas), grind (arith, the_lemmas)),
-  subst (StepsIn c.args.state.now) (sym c.as_slice.ensures) (inside.left_steps c.args.state.now c.in-If.test c.in-If.yes c.in-If.no (rw c.in-If.is at c.requires)),
+  subst (StepsIn c.args.state.now) (sym c.as_slice.ensures)
+      (inside.left_steps c.args.state.now c.in-If.test c.in-If.yes c.in-If.no (rw c.in-If.is at c.requires)),
 )
 
 pub step_needs-steps_need-requires-in-If : goal.step_needs-steps_need-requires-in-If
 step_needs-steps_need-requires-in-If t c = (
   first_of (search (rules, the_lemmas), grind (arith, the_lemmas)),
-  subst (StepsIn c.args.state.now) (sym c.as_slice-in-If.ensures) (inside.right_steps c.args.state.now c.in-If.test c.in-If.yes c.in-If.no (rw c.in-If.is at c.requires)),
+  subst (StepsIn c.args.state.now) (sym c.as_slice-in-If.ensures)
+      (inside.right_steps c.args.state.now c.in-If.test c.in-If.yes c.in-If.no (rw c.in-If.is at c.requires)),
 )
 
 pub step_needs-returns-in-If : goal.step_needs-returns-in-If
@@ -42,19 +44,22 @@ step_needs-returns-in-If t c =
     let a = c.in_ok-left-in-If.left in
     let b = c.in_ok-right-in-If.right in
     IfOk-weaker c.both.result _ _
-    (λ n e d k of ok. e ∙ rw c.in-If.is (if_need d k c.in-If.test c.in-If.yes c.in-If.no (room_seen a) (room_seen b) (rw c.in-If.is at ok) (left d k of) (right d k of)))
+    (λ n e d k of ok. e ∙ rw c.in-If.is
+    (if_need d k c.in-If.test c.in-If.yes c.in-If.no (room_seen a) (room_seen b) (rw c.in-If.is at ok) (left d k of) (right d k of)))
     c.both.ensures
 
 pub step_needs-arms_need-requires : goal.step_needs-arms_need-requires
 step_needs-arms_need-requires t c = (
   first_of (search (rules, the_lemmas), grind (arith, the_lemmas)),
-  subst (ArmsIn c.args.state.now) (sym c.as_slice-in-Case.ensures) (inside.all_arms c.args.state.now c.in-Case.on c.in-Case.arms c.in-Case.rest (rw c.in-Case.is at c.requires)),
+  subst (ArmsIn c.args.state.now) (sym c.as_slice-in-Case.ensures)
+      (inside.all_arms c.args.state.now c.in-Case.on c.in-Case.arms c.in-Case.rest (rw c.in-Case.is at c.requires)),
 )
 
 pub step_needs-steps_need-requires-in-Case : goal.step_needs-steps_need-requires-in-Case
 step_needs-steps_need-requires-in-Case t c = (
   first_of (search (rules, the_lemmas), grind (arith, the_lemmas)),
-  subst (StepsIn c.args.state.now) (sym c.as_slice-in-Case-2.ensures) (inside.other_steps c.args.state.now c.in-Case.on c.in-Case.arms c.in-Case.rest (rw c.in-Case.is at c.requires)),
+  subst (StepsIn c.args.state.now) (sym c.as_slice-in-Case-2.ensures)
+      (inside.other_steps c.args.state.now c.in-Case.on c.in-Case.arms c.in-Case.rest (rw c.in-Case.is at c.requires)),
 )
 
 pub step_needs-returns-in-Case : goal.step_needs-returns-in-Case
@@ -64,7 +69,9 @@ step_needs-returns-in-Case t c =
     let a = c.in_ok-left-in-Case.left in
     let b = c.in_ok-right-in-Case.right in
     IfOk-weaker c.both-in-Case.result _ _
-    (λ n e d k of ok. e ∙ rw c.in-Case.is (case_need d k c.in-Case.on c.in-Case.arms c.in-Case.rest (room_seen a) (room_seen b) (rw c.in-Case.is at ok) (left d k (width_of d c.in-Case.on) of) (right d k of)))
+    (λ n e d k of ok. e ∙ rw c.in-Case.is
+    (case_need d k c.in-Case.on c.in-Case.arms c.in-Case.rest (room_seen a) (room_seen b) (rw c.in-Case.is at ok) (left d k (width_of d c.in-Case.on) of)
+    (right d k of)))
     c.both-in-Case.ensures
 
 pub step_needs-returns-in-Show : goal.step_needs-returns-in-Show
@@ -91,7 +98,8 @@ steps_need-loop-step-preserved t c =
     let e = drop_here c.args.steps.now c.loop-step.step-index x c.loop-step-test.true c.step-item.is in
     let inv = rw e at c.loop-step.invariant in
     record {
-      needs = λ d k of ok. one_need d mentions_in x rest (room_seen c.loop-step.all) (room_seen c.in_ok-more.more) _ (room_seen c.in_ok-all.all) (inv.needs d k of ok)
+      needs = λ d k of ok. one_need d mentions_in x rest (room_seen c.loop-step.all) (room_seen c.in_ok-more.more) _ (room_seen c.in_ok-all.all)
+          (inv.needs d k of ok)
           (c.in_ok-more.ensures d k of (left_true (is_step d k x) (list_all (is_step d k) rest) (inv.formed d k ok))) c.in_ok-all.ensures;
       formed = λ d k ok. right_true (is_step d k x) (list_all (is_step d k) rest) (inv.formed d k ok);
       can = inside.rest_steps c.args.state.now x rest inv.can;
@@ -121,8 +129,10 @@ arms_need-loop-arm-preserved t c =
     let inv = rw e at c.loop-arm.invariant in
     let more = rw c.as_slice.ensures at c.in_ok-more.ensures in
     record {
-      needs = λ d k w of ok. one_need d arm_mentions_in arm rest (room_seen c.loop-arm.all) (room_seen c.in_ok-more.more) _ (room_seen c.in_ok-all.all) (inv.needs d k w of ok)
-          (more d k of (right_true (list_all (is_item d w) arm.items) (list_all (is_step d k) arm.body) (left_true (arm_at d k w arm) (list_all (arm_at d k w) rest) (inv.formed d k w ok))) ∙ arm_need d arm)
+      needs = λ d k w of ok. one_need d arm_mentions_in arm rest (room_seen c.loop-arm.all) (room_seen c.in_ok-more.more) _ (room_seen c.in_ok-all.all)
+          (inv.needs d k w of ok)
+          (more d k of (right_true (list_all (is_item d w) arm.items) (list_all (is_step d k) arm.body)
+          (left_true (arm_at d k w arm) (list_all (arm_at d k w) rest) (inv.formed d k w ok))) ∙ arm_need d arm)
           c.in_ok-all.ensures;
       formed = λ d k w ok. right_true (arm_at d k w arm) (list_all (arm_at d k w) rest) (inv.formed d k w ok);
       can = inside.rest_arms c.args.state.now arm rest inv.can;

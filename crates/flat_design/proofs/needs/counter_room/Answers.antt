@@ -11,7 +11,8 @@ steps_need-requires c =
     let d = c.args.design.now in
     let p = c.index-as_slice-p.result in
     let is : p ≡ slice_index_or d.processes c.args.p p = c.index-as_slice-p.is ∙ ap (λ ps. slice_index_or ps c.args.p p) c.as_slice.ensures in
-    subst (StepsIn c.args.state.now) (sym c.as_slice-2.ensures) (process_steps d c.args.state.now p c.requires.valid c.requires.of_design c.args.p c.requires.process is)
+    subst (StepsIn c.args.state.now) (sym c.as_slice-2.ensures)
+    (process_steps d c.args.state.now p c.requires.valid c.requires.of_design c.args.p c.requires.process is)
 
 pub returns : goal.returns
 returns c =

@@ -25,7 +25,8 @@ loop-target-preserved c =
     let more : map part_of c.push.new.self.items ≡ map part_of c.loop-target.out.items ++ part_of c.update_at.result ∷ [] =
     ap (map part_of) c.in-Ok.ensures.items ∙ map_more part_of c.loop-target.out.items c.update_at.result in
     record {
-      parts = one_more (map part_of c.loop-target.out.items) (map part_of c.push.new.self.items) (part_of c.update_at.result) _ (parts_at s rest n) _ more is inv.parts;
+      parts = one_more (map part_of c.loop-target.out.items) (map part_of c.push.new.self.items) (part_of c.update_at.result) _ (parts_at s rest n) _ more is
+          inv.parts;
       widths = sym below;
       targets = rest_in s t rest inv.targets;
       room = grind (arith, common_steps, inv.room);

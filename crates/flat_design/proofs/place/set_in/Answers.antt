@@ -22,7 +22,8 @@ write_updates-requires c =
     let n : c.len-before.result ≡ length old = grind (arith, common_steps) in
     let rest : take (length us - c.len-before.result) (drop c.len-before.result us) ≡ drop (length old) c.place.new.out.items =
     slice_rest c.len-before.result us ∙ ap (λ k. drop k us) n ∙ ap (drop (length old)) c.as_slice.ensures.value in
-    subst (All (λ u. u.var < length s)) (sym rest) (placed_in s c.place.new.out.items old c.args.targets.now c.args.value.bits c.requires.targets c.place.ensures.parts)
+    subst (All (λ u. u.var < length s)) (sym rest)
+    (placed_in s c.place.new.out.items old c.args.targets.now c.args.value.bits c.requires.targets c.place.ensures.parts)
 
 pub returns-clause-spare : goal.returns-clause-spare
 returns-clause-spare c =

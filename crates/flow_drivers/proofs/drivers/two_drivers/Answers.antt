@@ -17,7 +17,8 @@ none_driven-requires c = subst AreFew (sym c.as_slice.ensures) (few_of c.args.de
 
 pub loop-at-init : goal.loop-at-init
 loop-at-init c = record {
-  driven = none_are c.args.design.now c.in_ok-driven.driven (subst (λ (vars : List Var). AreNone vars c.in_ok-driven.driven) c.as_slice.ensures c.in_ok-driven.ensures);
+  driven = none_are c.args.design.now c.in_ok-driven.driven
+      (subst (λ (vars : List Var). AreNone vars c.in_ok-driven.driven) c.as_slice.ensures c.in_ok-driven.ensures);
   kept = before_none HasTwoDrivers c.args.design.now;
 }
 
@@ -38,7 +39,9 @@ returns-in-Some c =
     (subst (λ (ps : List Process). c.index-processes-at.result
     ≡ get_or ps c.loop-at.at c.index-processes-at.result) c.as_slice-processes.ensures c.index-processes-at.is) in
     let l : IsLeastOf (HasTwoDrivers c.args.design.now c.loop-at.at) (Some c.in-Some.var) =
-    shared_is c.args.design.now c.loop-at.at c.index-uses-at.result lt u c.loop-at.driven (get_or c.as_slice-processes.result.now c.loop-at.at c.index-processes-at.result).kind k c.loop-at.invariant.driven (Some c.in-Some.var) c.in-Some.ensures in
+    shared_is c.args.design.now c.loop-at.at c.index-uses-at.result lt u c.loop-at.driven
+    (get_or c.as_slice-processes.result.now c.loop-at.at c.index-processes-at.result).kind k c.loop-at.invariant.driven (Some c.in-Some.var)
+    c.in-Some.ensures in
     first_is HasTwoDrivers c.args.design.now c.loop-at.at c.in-Some.var c.loop-at.invariant.kept l.0 l.1
 
 pub drive-requires : goal.drive-requires
@@ -60,13 +63,16 @@ loop-at-preserved c =
     (subst (λ (ps : List Process). c.index-processes-at.result
     ≡ get_or ps c.loop-at.at c.index-processes-at.result) c.as_slice-processes.ensures c.index-processes-at.is) in
     let l : IsLeastOf (HasTwoDrivers c.args.design.now c.loop-at.at) None =
-    shared_is c.args.design.now c.loop-at.at c.index-uses-at.result lt u c.loop-at.driven (get_or c.as_slice-processes.result.now c.loop-at.at c.index-processes-at.result).kind k c.loop-at.invariant.driven None c.in-None.ensures in
+    shared_is c.args.design.now c.loop-at.at c.index-uses-at.result lt u c.loop-at.driven
+    (get_or c.as_slice-processes.result.now c.loop-at.at c.index-processes-at.result).kind k c.loop-at.invariant.driven None c.in-None.ensures in
     record {
-      driven = next_are c.args.design.now c.loop-at.at c.index-uses-at-in-None.result lt u2 c.loop-at.driven c.drive.new.driven (get_or c.as_slice-processes.result.now c.loop-at.at c.index-processes-at.result).kind k c.loop-at.invariant.driven c.drive.ensures;
+      driven = next_are c.args.design.now c.loop-at.at c.index-uses-at-in-None.result lt u2 c.loop-at.driven c.drive.new.driven
+          (get_or c.as_slice-processes.result.now c.loop-at.at c.index-processes-at.result).kind k c.loop-at.invariant.driven c.drive.ensures;
       kept = before_more HasTwoDrivers c.args.design.now c.loop-at.at c.loop-at.invariant.kept l;
     }
 
 pub returns : goal.returns
 returns c =
     let past : length c.args.design.now.processes ≤ c.loop-at.at = subst (λ (ps : List Process). length ps ≤ c.loop-at.at) c.as_slice-processes.ensures c.loop-at-test.false in
-    before_all HasTwoDrivers c.args.design.now (length c.args.design.now.processes) c.loop-at.at past (λ q w le. none_past c.args.design.now q w le) c.loop-at.invariant.kept
+    before_all HasTwoDrivers c.args.design.now (length c.args.design.now.processes) c.loop-at.at past (λ q w le. none_past c.args.design.now q w le)
+    c.loop-at.invariant.kept

@@ -8,7 +8,9 @@ use Rattle.flow_drivers.proofs.flags.least_var.Goals as goal
 
 pub loop-span-preserved : goal.loop-span-preserved
 loop-span-preserved c = subst (IsLeastOf (λ v. IsTrue (has_var (take (c.loop-span.span-index + 1) c.args.spans.now) v))) (sym c.lesser-least.ensures)
-    (var_next c.args.spans.now c.loop-span.span-index (record { var = 0; word = 0; word_end = 0; place = 0; place_end = 0 }) c.loop-span-test.true c.loop-span.least c.loop-span.invariant)
+    (var_next c.args.spans.now c.loop-span.span-index (record { var = 0; word = 0; word_end = 0; place = 0; place_end = 0 }) c.loop-span-test.true
+    c.loop-span.least c.loop-span.invariant)
 
 pub returns : goal.returns
-returns c = subst (λ ys. IsLeastOf (λ v. IsTrue (has_var ys v)) c.loop-span.least) (take_all c.loop-span.span-index c.args.spans.now c.loop-span-test.false) c.loop-span.invariant
+returns c = subst (λ ys. IsLeastOf (λ v. IsTrue (has_var ys v)) c.loop-span.least) (take_all c.loop-span.span-index c.args.spans.now c.loop-span-test.false)
+    c.loop-span.invariant

@@ -55,4 +55,5 @@ loop-at-preserved c =
 pub returns : goal.returns
 returns c =
     let past : length c.args.design.now.processes ≤ c.loop-at.at = subst (λ (ps : List Process). length ps ≤ c.loop-at.at) c.as_slice-processes.ensures c.loop-at-test.false in
-    before_all IsMixed c.args.design.now (length c.args.design.now.processes) c.loop-at.at past (λ q w le. none_mixed c.args.design.now q w le) c.loop-at.invariant.kept
+    before_all IsMixed c.args.design.now (length c.args.design.now.processes) c.loop-at.at past (λ q w le. none_mixed c.args.design.now q w le)
+    c.loop-at.invariant.kept

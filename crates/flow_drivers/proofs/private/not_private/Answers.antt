@@ -19,7 +19,8 @@ least_shared-requires-clause-watches c =
     let lt : c.loop-at.at < length c.args.design.now.processes = subst (λ (ps : List Process). c.loop-at.at < length ps) c.as_slice-processes.ensures c.loop-at-test.true in
     let u : AreUsesOf c.args.design.now c.loop-at.at c.index-uses-at.result =
     used_at c.args.design.now c.args.uses.now c.requires.many c.requires.uses c.loop-at.at c.index-uses-at.result lt c.index-uses-at.is in
-    within_vars c.args.design.now c.loop-at.at c.index-uses-at.result (length c.as_slice-in-loop-at.result.now) (ap length c.as_slice-in-loop-at.ensures.value ∙ c.in_ok-watches.ensures.many) u
+    within_vars c.args.design.now c.loop-at.at c.index-uses-at.result (length c.as_slice-in-loop-at.result.now)
+    (ap length c.as_slice-in-loop-at.ensures.value ∙ c.in_ok-watches.ensures.many) u
 
 pub least_shared-requires-clause-outputs : goal.least_shared-requires-clause-outputs
 least_shared-requires-clause-outputs c =
@@ -42,8 +43,12 @@ returns-in-Some c =
     subst (λ (os : List ℕ). (v : ℕ) → get_or c.in_ok-outputs.outputs.items v false
     ≡ list_any (λ o. o == v) os) c.as_slice.ensures c.in_ok-outputs.ensures.flags in
     let l : IsLeastOf (IsNotPrivate c.args.design.now c.loop-at.at) (Some c.in-Some.var) = private_is c.args.design.now c.in_ok-watches.watches.items c.in_ok-outputs.outputs.items c.in_ok-watches.ensures flags c.loop-at.at c.index-uses-at.result u (get_or c.as_slice-processes.result.now c.loop-at.at c.index-processes-at.result).kind k (Some c.in-Some.var)
-    (subst (λ (os : List Bool). IsLeastOf (IsSeenIn (get_or c.as_slice-processes.result.now c.loop-at.at c.index-processes-at.result).kind c.index-uses-at.result c.in_ok-watches.watches.items os c.loop-at.at) (Some c.in-Some.var)) c.as_slice-in-loop-at-2.ensures.value
-    (subst (λ (ws : List Watch). IsLeastOf (IsSeenIn (get_or c.as_slice-processes.result.now c.loop-at.at c.index-processes-at.result).kind c.index-uses-at.result ws c.as_slice-in-loop-at-2.result.now c.loop-at.at) (Some c.in-Some.var)) c.as_slice-in-loop-at.ensures.value c.in-Some.ensures)) in
+    (subst (λ (os : List Bool). IsLeastOf
+    (IsSeenIn (get_or c.as_slice-processes.result.now c.loop-at.at c.index-processes-at.result).kind c.index-uses-at.result c.in_ok-watches.watches.items
+    os c.loop-at.at) (Some c.in-Some.var)) c.as_slice-in-loop-at-2.ensures.value
+    (subst (λ (ws : List Watch). IsLeastOf
+    (IsSeenIn (get_or c.as_slice-processes.result.now c.loop-at.at c.index-processes-at.result).kind c.index-uses-at.result ws
+    c.as_slice-in-loop-at-2.result.now c.loop-at.at) (Some c.in-Some.var)) c.as_slice-in-loop-at.ensures.value c.in-Some.ensures)) in
     first_is IsNotPrivate c.args.design.now c.loop-at.at c.in-Some.var c.loop-at.invariant l.0 l.1
 
 pub loop-at-preserved : goal.loop-at-preserved
@@ -59,11 +64,16 @@ loop-at-preserved c =
     subst (λ (os : List ℕ). (v : ℕ) → get_or c.in_ok-outputs.outputs.items v false
     ≡ list_any (λ o. o == v) os) c.as_slice.ensures c.in_ok-outputs.ensures.flags in
     let l : IsLeastOf (IsNotPrivate c.args.design.now c.loop-at.at) None = private_is c.args.design.now c.in_ok-watches.watches.items c.in_ok-outputs.outputs.items c.in_ok-watches.ensures flags c.loop-at.at c.index-uses-at.result u (get_or c.as_slice-processes.result.now c.loop-at.at c.index-processes-at.result).kind k None
-    (subst (λ (os : List Bool). IsLeastOf (IsSeenIn (get_or c.as_slice-processes.result.now c.loop-at.at c.index-processes-at.result).kind c.index-uses-at.result c.in_ok-watches.watches.items os c.loop-at.at) None) c.as_slice-in-loop-at-2.ensures.value
-    (subst (λ (ws : List Watch). IsLeastOf (IsSeenIn (get_or c.as_slice-processes.result.now c.loop-at.at c.index-processes-at.result).kind c.index-uses-at.result ws c.as_slice-in-loop-at-2.result.now c.loop-at.at) None) c.as_slice-in-loop-at.ensures.value c.in-None.ensures)) in
+    (subst (λ (os : List Bool). IsLeastOf
+    (IsSeenIn (get_or c.as_slice-processes.result.now c.loop-at.at c.index-processes-at.result).kind c.index-uses-at.result c.in_ok-watches.watches.items
+    os c.loop-at.at) None) c.as_slice-in-loop-at-2.ensures.value
+    (subst (λ (ws : List Watch). IsLeastOf
+    (IsSeenIn (get_or c.as_slice-processes.result.now c.loop-at.at c.index-processes-at.result).kind c.index-uses-at.result ws
+    c.as_slice-in-loop-at-2.result.now c.loop-at.at) None) c.as_slice-in-loop-at.ensures.value c.in-None.ensures)) in
     before_more IsNotPrivate c.args.design.now c.loop-at.at c.loop-at.invariant l
 
 pub returns : goal.returns
 returns c =
     let past : length c.args.design.now.processes ≤ c.loop-at.at = subst (λ (ps : List Process). length ps ≤ c.loop-at.at) c.as_slice-processes.ensures c.loop-at-test.false in
-    before_all IsNotPrivate c.args.design.now (length c.args.design.now.processes) c.loop-at.at past (λ q w le. none_private c.args.design.now q w le) c.loop-at.invariant
+    before_all IsNotPrivate c.args.design.now (length c.args.design.now.processes) c.loop-at.at past (λ q w le. none_private c.args.design.now q w le)
+    c.loop-at.invariant

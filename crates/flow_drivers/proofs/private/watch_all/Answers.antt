@@ -46,9 +46,11 @@ loop-at-preserved c = elim c.if-lasts.branch [
       ∙ w.if-lasts.true) in
       let n : length w.watch_process.new.watches ≡ length c.loop-at.watches.items = w.watch_process.auto.watches ∙ ap length w.as_mut_slice.ensures.value in
       let e : c.loop-at.watches.len ≡ length c.loop-at.watches.items = omega (arith, c.loop-at.watches.ok.0) in
-      rw w.watches-is (subst (λ (z : List Watch). AreWatched c.args.design.now (c.loop-at.at + 1) z) (sym (back_is c.loop-at.watches.items w.watch_process.new.watches c.loop-at.watches.len n e))
+      rw w.watches-is (subst (λ (z : List Watch). AreWatched c.args.design.now (c.loop-at.at + 1) z)
+      (sym (back_is c.loop-at.watches.items w.watch_process.new.watches c.loop-at.watches.len n e))
       (next_watched c.args.design.now c.loop-at.at w.index-uses-at.result c.loop-at.watches.items w.watch_process.new.watches u i c.loop-at.invariant
-      (subst (λ (z : List Watch). HasWatched z w.watch_process.new.watches w.index-uses-at.result c.loop-at.at) w.as_mut_slice.ensures.value w.watch_process.ensures))))
+      (subst (λ (z : List Watch). HasWatched z w.watch_process.new.watches w.index-uses-at.result c.loop-at.at) w.as_mut_slice.ensures.value
+      w.watch_process.ensures))))
   | else-lasts w ↦ (
       let lt : c.loop-at.at < length c.args.design.now.processes = subst (λ (ps : List Process). c.loop-at.at < length ps) c.as_slice-processes.ensures c.loop-at-test.true in
       let k : (get_or c.as_slice-processes.result.now c.loop-at.at c.index-processes-at.result).kind ≡ kind_of c.args.design.now c.loop-at.at =

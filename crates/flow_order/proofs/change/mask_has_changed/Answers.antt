@@ -11,5 +11,6 @@ returns-then-read-mask-ne0 c =
 pub returns : goal.returns
 returns c = (
   λ t. absurd (cc t),
-  λ h. absurd (none_changed_word c.args.mask.now c.args.now.now c.args.before.now c.loop-word.word (omega (arith, c.loop-word-test.false)) c.loop-word.invariant h),
+  λ h. absurd (none_changed_word c.args.mask.now c.args.now.now c.args.before.now c.loop-word.word (omega (arith, c.loop-word-test.false))
+      c.loop-word.invariant h),
 )

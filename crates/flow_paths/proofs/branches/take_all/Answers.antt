@@ -8,7 +8,8 @@ use Rattle.flow_paths.proofs.Listing.{zero_spot, takes_next}
 use Rattle.flow_paths.proofs.branches.take_all.Goals as goal
 
 pub take-requires : goal.take-requires
-take-requires c = subst (λ (z : List Slot). IsIn z (spot_bit (get_or c.args.spots.now c.loop-spot.spot-index zero_spot))) (sym c.loop-spot.invariant.takes.slots)
+take-requires c = subst (λ (z : List Slot). IsIn z (spot_bit (get_or c.args.spots.now c.loop-spot.spot-index zero_spot)))
+    (sym c.loop-spot.invariant.takes.slots)
     (c.requires c.loop-spot.spot-index zero_spot c.loop-spot-test.true)
 
 pub loop-spot-preserved : goal.loop-spot-preserved

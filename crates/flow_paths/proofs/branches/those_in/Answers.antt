@@ -9,7 +9,8 @@ use Rattle.flow_paths.proofs.branches.those_in.Goals.{then-has+in_ok-push, else-
 pub loop-spot-preserved : goal.loop-spot-preserved
 loop-spot-preserved c = elim c.if-has.branch [
   | then-has+in_ok-push w ↦ rw (w.all-is, w.in_ok-push.ensures.items) (record {
-    inside = inside_more c.args.spots.now c.loop-spot.spot-index c.loop-spot-test.true c.args.marks.now.slots c.loop-spot.all.items c.requires c.loop-spot.invariant.inside;
+    inside = inside_more c.args.spots.now c.loop-spot.spot-index c.loop-spot-test.true c.args.marks.now.slots c.loop-spot.all.items c.requires
+        c.loop-spot.invariant.inside;
     bits = λ b. kept_more c.args.spots.now c.loop-spot.spot-index c.loop-spot-test.true (has c.args.marks.now) c.loop-spot.all.items b
         (sym c.has.ensures ∙ w.if-has.true) (c.loop-spot.invariant.bits b);
   })

@@ -30,7 +30,8 @@ pub walk_process-requires-clause-known : goal.walk_process-requires-clause-known
 walk_process-requires-clause-known c =
     let state : IsStateOf c.args.design.now c.in_ok-state.state =
     subst (IsStateOf c.args.design.now) (sym c.in_ok-state.ensures) (start_is_state c.args.design.now (variables_of c.args.design.now c.requires.valid)) in
-    subst (λ (vs : List Var). AreKnown vs c.in_ok-state.state) (sym c.as_slice-vars.ensures) (record { valid = variables_of c.args.design.now c.requires.valid; state = state })
+    subst (λ (vs : List Var). AreKnown vs c.in_ok-state.state) (sym c.as_slice-vars.ensures)
+    (record { valid = variables_of c.args.design.now c.requires.valid; state = state })
 
 pub walk_process-requires-clause-body : goal.walk_process-requires-clause-body
 walk_process-requires-clause-body c =
@@ -41,7 +42,8 @@ walk_process-requires-clause-body c =
     subst (λ (ps : List Process). c.index-processes-at-then-settles.result
     ≡ get_or ps c.loop-at.at c.index-processes-at-then-settles.result) c.as_slice-processes.ensures c.index-processes-at-then-settles.is in
     let b : c.as_slice-body.result.now ≡ c.index-processes-at-then-settles.result.body = cc (c.as_slice-body.ensures, c.index-processes-at-then-settles.is) in
-    subst (AreStepsIn c.in_ok-state.state) (sym b) (body_in c.args.design.now c.requires.valid c.in_ok-state.state state c.loop-at.at c.index-processes-at-then-settles.result lt is)
+    subst (AreStepsIn c.in_ok-state.state) (sym b)
+    (body_in c.args.design.now c.requires.valid c.in_ok-state.state state c.loop-at.at c.index-processes-at-then-settles.result lt is)
 
 pub walk_process-requires-clause-marked : goal.walk_process-requires-clause-marked
 walk_process-requires-clause-marked c =
@@ -70,9 +72,11 @@ returns-in-Some-clause-fault c =
     let walk : IsWalked c.args.design.now.vars c.index-uses-at.result (process_of c.args.design.now c.loop-at.at).body c.walk_process.new.walk c.in_ok-var.field-0 =
     subst (λ xs. IsWalked c.args.design.now.vars c.index-uses-at.result xs c.walk_process.new.walk c.in_ok-var.field-0)
     (b ∙ ap (λ (x : Process). x.body) (get_or_read c.args.design.now.processes c.loop-at.at c.index-processes-at-then-settles.result lt is no_process))
-    (subst (λ vs. IsWalked vs c.index-uses-at.result c.as_slice-body.result.now c.walk_process.new.walk c.in_ok-var.field-0) c.as_slice-vars.ensures c.in_ok-var.ensures) in
+    (subst (λ vs. IsWalked vs c.index-uses-at.result c.as_slice-body.result.now c.walk_process.new.walk c.in_ok-var.field-0) c.as_slice-vars.ensures
+    c.in_ok-var.ensures) in
     let l : IsLeastOf (IsLatch c.args.design.now c.loop-at.at) (Some c.in-Some.var) = latch_is c.args.design.now c.loop-at.at c.index-uses-at.result u st (Some c.in-Some.var)
-    (subst (λ (q : Option ℕ). IsLeastOf (IsKeptIn c.args.design.now.vars c.index-uses-at.result (process_of c.args.design.now c.loop-at.at).body) q) c.in-Some.is walk.latch) in
+    (subst (λ (q : Option ℕ). IsLeastOf (IsKeptIn c.args.design.now.vars c.index-uses-at.result (process_of c.args.design.now c.loop-at.at).body) q)
+    c.in-Some.is walk.latch) in
     first_is IsLatch c.args.design.now c.loop-at.at c.in-Some.var c.loop-at.invariant.no_latch l.0 l.1
 
 pub loop-at-preserved : goal.loop-at-preserved
@@ -93,14 +97,17 @@ loop-at-preserved c = elim c.if-settles.branch [
       let walk : IsWalked c.args.design.now.vars w.index-uses-at.result (process_of c.args.design.now c.loop-at.at).body w.walk_process.new.walk w.in_ok-var.field-0 =
       subst (λ xs. IsWalked c.args.design.now.vars w.index-uses-at.result xs w.walk_process.new.walk w.in_ok-var.field-0)
       (b ∙ ap (λ (x : Process). x.body) (get_or_read c.args.design.now.processes c.loop-at.at w.index-processes-at-then-settles.result lt is no_process))
-      (subst (λ vs. IsWalked vs w.index-uses-at.result w.as_slice-body.result.now w.walk_process.new.walk w.in_ok-var.field-0) c.as_slice-vars.ensures w.in_ok-var.ensures) in
+      (subst (λ vs. IsWalked vs w.index-uses-at.result w.as_slice-body.result.now w.walk_process.new.walk w.in_ok-var.field-0) c.as_slice-vars.ensures
+      w.in_ok-var.ensures) in
       let l : IsLeastOf (IsLatch c.args.design.now c.loop-at.at) None = latch_is c.args.design.now c.loop-at.at w.index-uses-at.result u st None
-      (subst (λ (q : Option ℕ). IsLeastOf (IsKeptIn c.args.design.now.vars w.index-uses-at.result (process_of c.args.design.now c.loop-at.at).body) q) w.in-None.is walk.latch) in
+      (subst (λ (q : Option ℕ). IsLeastOf (IsKeptIn c.args.design.now.vars w.index-uses-at.result (process_of c.args.design.now c.loop-at.at).body) q)
+      w.in-None.is walk.latch) in
       rw (w.walk-is, w.early-is) (record {
         fresh = walk.fresh w.in-None.is;
         no_latch = before_more IsLatch c.args.design.now c.loop-at.at c.loop-at.invariant.no_latch l;
         early = subst (IsFirstBefore IsReadBeforeWrite c.args.design.now (c.loop-at.at + 1)) (sym w.first_place-early.ensures)
-            (first_next c.args.design.now c.loop-at.at c.loop-at.early (get_or c.as_slice-processes.result.now c.loop-at.at c.index-processes-at.result).kind w.walk_process.new.walk.early k c.loop-at.invariant.early
+            (first_next c.args.design.now c.loop-at.at c.loop-at.early (get_or c.as_slice-processes.result.now c.loop-at.at c.index-processes-at.result).kind
+            w.walk_process.new.walk.early k c.loop-at.invariant.early
             (λ q. early_is c.args.design.now c.loop-at.at w.index-uses-at.result u q w.walk_process.new.walk.early walk.early));
       }))
   | else-settles w ↦ (
@@ -121,12 +128,18 @@ pub returns-in-None-early-clause-kept : goal.returns-in-None-early-clause-kept
 returns-in-None-early-clause-kept c =
     let past : length c.args.design.now.processes ≤ c.loop-at.at = subst (λ (ps : List Process). length ps ≤ c.loop-at.at) c.as_slice-processes.ensures c.loop-at-test.false in
     record {
-      no_latch = before_all IsLatch c.args.design.now (length c.args.design.now.processes) c.loop-at.at past (λ q w le. no_latch_past c.args.design.now q w le) c.loop-at.invariant.no_latch;
-      written_first = before_all IsReadBeforeWrite c.args.design.now (length c.args.design.now.processes) c.loop-at.at past (λ q w le. not_early_past c.args.design.now q w le)
+      no_latch = before_all IsLatch c.args.design.now (length c.args.design.now.processes) c.loop-at.at past
+          (λ q w le. no_latch_past c.args.design.now q w le) c.loop-at.invariant.no_latch;
+      written_first = before_all IsReadBeforeWrite c.args.design.now (length c.args.design.now.processes) c.loop-at.at past
+          (λ q w le. not_early_past c.args.design.now q w le)
           (subst (λ (q : Option Place). IsFirstBefore IsReadBeforeWrite c.args.design.now c.loop-at.at q) c.in-None-early.is c.loop-at.invariant.early);
     }
 
 pub returns-clause-fault : goal.returns-clause-fault
 returns-clause-fault c =
-    let past : length c.args.design.now.processes ≤ c.loop-at.at = subst (λ (ps : List Process). length ps ≤ c.loop-at.at) c.as_slice-processes.ensures c.loop-at-test.false in
-    (before_all IsLatch c.args.design.now (length c.args.design.now.processes) c.loop-at.at past (λ q w le. no_latch_past c.args.design.now q w le) c.loop-at.invariant.no_latch, subst (λ (q : Option Place). IsFirstBefore IsReadBeforeWrite c.args.design.now c.loop-at.at q) c.in-Some-early.is c.loop-at.invariant.early)
+    let past : length c.args.design.now.processes ≤ c.loop-at.at = subst (λ (ps : List Process). length ps ≤ c.loop-at.at) c.as_slice-processes.ensures c.loop-at-test.false in (
+      before_all IsLatch c.args.design.now (length c.args.design.now.processes) c.loop-at.at past (λ q w le. no_latch_past c.args.design.now q w le)
+          c.loop-at.invariant.no_latch,
+      subst (λ (q : Option Place). IsFirstBefore IsReadBeforeWrite c.args.design.now c.loop-at.at q) c.in-Some-early.is
+          c.loop-at.invariant.early,
+    )

@@ -8,7 +8,8 @@ use Rattle.flow_paths.proofs.Pathways.{filled_ready, walked}
 use Rattle.flow_paths.proofs.faults.walk_process.Goals as goal
 
 pub taken_in-requires-clause-ready : goal.taken_in-requires-clause-ready
-taken_in-requires-clause-ready c = filled_ready c.args.vars.now c.args.uses.now c.args.body.now c.args.walk.now (record { left = c.insert_driven.new.marks; spare = c.args.walk.now.spare; trail = c.args.walk.now.trail; early = None }) c.requires.fresh
+taken_in-requires-clause-ready c = filled_ready c.args.vars.now c.args.uses.now c.args.body.now c.args.walk.now
+    (record { left = c.insert_driven.new.marks; spare = c.args.walk.now.spare; trail = c.args.walk.now.trail; early = None }) c.requires.fresh
     c.insert_driven.ensures.slots c.insert_driven.ensures.bits refl refl refl
 
 pub take_all-requires : goal.take_all-requires
@@ -20,7 +21,8 @@ least_driven-requires c = subst (λ (z : List Slot). AreMarked z c.args.uses.now
     (sym (c.in_ok-take_all.ensures.takes.slots ∙ c.in_ok-taken.ensures.left_slots ∙ c.insert_driven.ensures.slots)) c.requires.marked
 
 pub returns : goal.returns
-returns c = walked c.args.vars.now c.args.uses.now c.args.body.now c.args.walk.now (record { left = c.insert_driven.new.marks; spare = c.args.walk.now.spare; trail = c.args.walk.now.trail; early = None }) c.requires.fresh
+returns c = walked c.args.vars.now c.args.uses.now c.args.body.now c.args.walk.now
+    (record { left = c.insert_driven.new.marks; spare = c.args.walk.now.spare; trail = c.args.walk.now.trail; early = None }) c.requires.fresh
     c.insert_driven.ensures.slots c.insert_driven.ensures.bits refl refl refl
     c.taken_in.new.walk c.take_all.new.walk (record {
       left = c.take_all.new.walk.left;

@@ -14,8 +14,10 @@ target_aim-requires-clause-target c = one_target c.args.state.now c.args.targets
     c.loop-target-test.true c.target-item.is c.requires.targets
 
 pub loop-target-preserved : goal.loop-target-preserved
-loop-target-preserved c = gathering.adds_next c.args.vars.now c.args.out.now.items c.loop-target.out.items c.target_aim.new.out.items (λ t b. is_in_any b (target_reads t))
-    c.args.targets.now c.loop-target.target-index c.target-item.result c.loop-target-test.true c.target-item.is c.loop-target.invariant c.in_ok-target_aim.ensures.reads
+loop-target-preserved c = gathering.adds_next c.args.vars.now c.args.out.now.items c.loop-target.out.items c.target_aim.new.out.items
+    (λ t b. is_in_any b (target_reads t))
+    c.args.targets.now c.loop-target.target-index c.target-item.result c.loop-target-test.true c.target-item.is c.loop-target.invariant
+    c.in_ok-target_aim.ensures.reads
 
 pub returns : goal.returns
 returns c = gathering.adds_end c.args.vars.now c.args.out.now.items c.loop-target.out.items (λ t b. is_in_any b (target_reads t)) c.args.targets.now

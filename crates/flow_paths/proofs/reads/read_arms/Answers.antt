@@ -14,15 +14,22 @@ loop-arm-init c = passes_none c.args.walk.now (λ b. false) (λ b. false) c.requ
 
 pub read_items-requires-clause-items : goal.read_items-requires-clause-items
 read_items-requires-clause-items c = subst (AreItemsIn c.args.state.now) (sym c.as_slice.ensures)
-    (formed.arm_items c.args.state.now c.arm-item.result (formed.one_arm c.args.state.now c.args.arms.now c.loop-arm.arm-index c.arm-item.result c.loop-arm-test.true c.arm-item.is c.requires.arms))
+    (formed.arm_items c.args.state.now c.arm-item.result
+    (formed.one_arm c.args.state.now c.args.arms.now c.loop-arm.arm-index c.arm-item.result c.loop-arm-test.true c.arm-item.is c.requires.arms))
 
 pub read_items-requires-clause-ready : goal.read_items-requires-clause-ready
-read_items-requires-clause-ready c = ready_after c.args.vars.now c.args.walk.now c.loop-arm.walk (λ b. false) (λ b. list_any (λ x. list_any (λ item. is_in_any b (item_reads item)) x.items) (take c.loop-arm.arm-index c.args.arms.now)) c.requires.ready c.loop-arm.invariant
+read_items-requires-clause-ready c = ready_after c.args.vars.now c.args.walk.now c.loop-arm.walk (λ b. false)
+    (λ b. list_any (λ x. list_any (λ item. is_in_any b (item_reads item)) x.items) (take c.loop-arm.arm-index c.args.arms.now)) c.requires.ready
+    c.loop-arm.invariant
 
 pub loop-arm-preserved : goal.loop-arm-preserved
-loop-arm-preserved c = reads_next c.args.walk.now c.loop-arm.walk c.read_items.new.walk (λ x b. list_any (λ item. is_in_any b (item_reads item)) x.items) c.args.arms.now c.loop-arm.arm-index c.arm-item.result
+loop-arm-preserved c = reads_next c.args.walk.now c.loop-arm.walk c.read_items.new.walk (λ x b. list_any (λ item. is_in_any b (item_reads item)) x.items)
+    c.args.arms.now c.loop-arm.arm-index c.arm-item.result
     c.loop-arm-test.true c.arm-item.is c.loop-arm.invariant
-    (subst (λ items. Passes c.loop-arm.walk c.read_items.new.walk (λ b. false) (λ b. list_any (λ item. is_in_any b (item_reads item)) items)) c.as_slice.ensures c.in_ok-read_items.ensures)
+    (subst (λ items. Passes c.loop-arm.walk c.read_items.new.walk (λ b. false) (λ b. list_any (λ item. is_in_any b (item_reads item)) items))
+    c.as_slice.ensures c.in_ok-read_items.ensures)
 
 pub returns : goal.returns
-returns c = subst (λ ys. Passes c.args.walk.now c.loop-arm.walk (λ b. false) (λ b. list_any (λ x. list_any (λ item. is_in_any b (item_reads item)) x.items) ys)) (take_all c.loop-arm.arm-index c.args.arms.now c.loop-arm-test.false) c.loop-arm.invariant
+returns c = subst (λ ys. Passes c.args.walk.now c.loop-arm.walk (λ b. false)
+    (λ b. list_any (λ x. list_any (λ item. is_in_any b (item_reads item)) x.items) ys)) (take_all c.loop-arm.arm-index c.args.arms.now c.loop-arm-test.false)
+    c.loop-arm.invariant

@@ -7,4 +7,5 @@ use Rattle.flow_paths.specs.Walking.{Passes}
 use Rattle.flow_paths.proofs.reads.read_arms.Given as goal
 
 abbrev pub invariant-loop-arm : goal.invariant-loop-arm
-invariant-loop-arm l = Passes l.initial.walk l.walk (λ b. false) (λ b. list_any (λ x. list_any (λ item. is_in_any b (item_reads item)) x.items) (take l.arm-index l.arms))
+invariant-loop-arm l = Passes l.initial.walk l.walk (λ b. false)
+    (λ b. list_any (λ x. list_any (λ item. is_in_any b (item_reads item)) x.items) (take l.arm-index l.arms))

@@ -12,14 +12,18 @@ pub loop-piece-init : goal.loop-piece-init
 loop-piece-init c = passes_none c.args.walk.now (λ b. false) (λ b. false) c.requires.ready.empty (λ b. refl) (λ b. refl)
 
 pub read_piece-requires-clause-piece : goal.read_piece-requires-clause-piece
-read_piece-requires-clause-piece c = formed.one_piece c.args.state.now c.args.pieces.now c.loop-piece.piece-index c.piece-item.result c.loop-piece-test.true c.piece-item.is c.requires.pieces
+read_piece-requires-clause-piece c = formed.one_piece c.args.state.now c.args.pieces.now c.loop-piece.piece-index c.piece-item.result c.loop-piece-test.true
+    c.piece-item.is c.requires.pieces
 
 pub read_piece-requires-clause-ready : goal.read_piece-requires-clause-ready
-read_piece-requires-clause-ready c = ready_after c.args.vars.now c.args.walk.now c.loop-piece.walk (λ b. false) (λ b. list_any (λ x. is_in_any b (piece_reads x)) (take c.loop-piece.piece-index c.args.pieces.now)) c.requires.ready c.loop-piece.invariant
+read_piece-requires-clause-ready c = ready_after c.args.vars.now c.args.walk.now c.loop-piece.walk (λ b. false)
+    (λ b. list_any (λ x. is_in_any b (piece_reads x)) (take c.loop-piece.piece-index c.args.pieces.now)) c.requires.ready c.loop-piece.invariant
 
 pub loop-piece-preserved : goal.loop-piece-preserved
-loop-piece-preserved c = reads_next c.args.walk.now c.loop-piece.walk c.read_piece.new.walk (λ x b. is_in_any b (piece_reads x)) c.args.pieces.now c.loop-piece.piece-index c.piece-item.result
+loop-piece-preserved c = reads_next c.args.walk.now c.loop-piece.walk c.read_piece.new.walk (λ x b. is_in_any b (piece_reads x)) c.args.pieces.now
+    c.loop-piece.piece-index c.piece-item.result
     c.loop-piece-test.true c.piece-item.is c.loop-piece.invariant c.in_ok-read_piece.ensures
 
 pub returns : goal.returns
-returns c = subst (λ ys. Passes c.args.walk.now c.loop-piece.walk (λ b. false) (λ b. list_any (λ x. is_in_any b (piece_reads x)) ys)) (take_all c.loop-piece.piece-index c.args.pieces.now c.loop-piece-test.false) c.loop-piece.invariant
+returns c = subst (λ ys. Passes c.args.walk.now c.loop-piece.walk (λ b. false) (λ b. list_any (λ x. is_in_any b (piece_reads x)) ys))
+    (take_all c.loop-piece.piece-index c.args.pieces.now c.loop-piece-test.false) c.loop-piece.invariant

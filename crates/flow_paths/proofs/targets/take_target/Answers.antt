@@ -4,7 +4,8 @@ use Rattle.flow_paths.proofs.targets.take_target.Goals as goal
 use Rattle.flow_paths.proofs.targets.take_target.Goals.{then-aim+in_ok-take_span, else-aim}
 
 pub take_span-requires-clause-span : goal.take_span-requires-clause-span
-take_span-requires-clause-span c = target_span c.args.vars.now c.args.walk.now c.args.walk.now c.requires.ready c.args.target.now c.in_ok-aim.aim c.in_ok-aim.ensures.aim
+take_span-requires-clause-span c = target_span c.args.vars.now c.args.walk.now c.args.walk.now c.requires.ready c.args.target.now c.in_ok-aim.aim
+    c.in_ok-aim.ensures.aim
 
 pub returns : goal.returns
 returns c = elim c.if-aim.branch [

@@ -65,7 +65,8 @@ gather_step-gather_steps-requires t c = (
   (
     c.requires.known,
     subst (AreStepsIn
-        c.args.state.now) (sym c.as_slice-in-If.ensures) (formed.if_left c.args.state.now c.in-If.test c.in-If.yes c.in-If.no (rw c.in-If.is at c.requires.step)),
+        c.args.state.now) (sym c.as_slice-in-If.ensures)
+        (formed.if_left c.args.state.now c.in-If.test c.in-If.yes c.in-If.no (rw c.in-If.is at c.requires.step)),
   ),
 )
 

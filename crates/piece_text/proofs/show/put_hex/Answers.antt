@@ -13,4 +13,5 @@ put_number-requires-clause-hold c =
 
 pub put_number-requires-clause-room : goal.put_number-requires-clause-room
 put_number-requires-clause-room c =
-    subst (λ k. vec_len c.args.out.now + length (spelled c.args.short 16 k c.args.of.bits) ≤ vec_capacity c.args.out.now) (sym c.hex_digits.ensures.value) c.requires
+    subst (λ k. vec_len c.args.out.now + length (spelled c.args.short 16 k c.args.of.bits) ≤ vec_capacity c.args.out.now) (sym c.hex_digits.ensures.value)
+    c.requires

@@ -31,7 +31,8 @@ points-preserved-in-Some c =
           (subst (λ (n : ℕ). names_of c.points.first.entries
           ≡ placed (slice_cmp nat_cmp) (filter_map file_of (seen_points (drop n up)))) next c.points.invariant.names)
           (ap names_of c.in_ok-next-2.ensures.entries ∙ put_name c.points.first.entries file k);
-      firsts = file_firsts up k _ within file (λ q. get by_bytes c.points.first q) (λ q. get by_bytes c.insert.new.self q) c.in-Some.ensures firsts (λ q. c.in_ok-next-2.ensures.updates.0 q);
+      firsts = file_firsts up k _ within file (λ q. get by_bytes c.points.first q) (λ q. get by_bytes c.insert.new.self q) c.in-Some.ensures firsts
+          (λ q. c.in_ok-next-2.ensures.updates.0 q);
       linked = λ q. linked_step (of_file q) up c.points.next.items k w c.points.invariant.len within
           (subst (λ (n : ℕ). IsLinked (of_file q) up c.points.next.items n) next (c.points.invariant.linked q))
           (λ passes. file_here up k _ within file.now q w c.in-Some.ensures before (passes _));

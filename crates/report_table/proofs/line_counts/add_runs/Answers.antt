@@ -6,4 +6,5 @@ use Rattle.report_table.proofs.line_counts.add_runs.Goals as goal
 
 pub runs-preserved : goal.runs-preserved
 runs-preserved c = λ q.
-    runs_step q c.args.runs.now c.runs.run-index _ (get nat_cmp c.runs.counts q) (get nat_cmp c.add_run.new.counts q) c.args.count c.runs-test.true (c.in_ok-add_run.ensures q) ∙ c.runs.invariant q
+    runs_step q c.args.runs.now c.runs.run-index _ (get nat_cmp c.runs.counts q) (get nat_cmp c.add_run.new.counts q) c.args.count c.runs-test.true
+    (c.in_ok-add_run.ensures q) ∙ c.runs.invariant q

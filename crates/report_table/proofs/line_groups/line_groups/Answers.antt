@@ -19,7 +19,8 @@ points-preserved-in-Some c =
     let firsts = λ (q : ℕ). subst (λ (n : ℕ). get nat_cmp c.points.first q ≡ first_at (at_line q) up n) next (c.points.invariant.firsts q) in
     let before : w ≡ first_at (at_line line) up (suc k) = c.in_ok-next-2.ensures.old ∙ firsts line in
     record {
-      firsts = line_firsts up k _ within line (λ q. get nat_cmp c.points.first q) (λ q. get nat_cmp c.insert.new.self q) c.in-Some.ensures firsts (λ q. c.in_ok-next-2.ensures.updates.0 q);
+      firsts = line_firsts up k _ within line (λ q. get nat_cmp c.points.first q) (λ q. get nat_cmp c.insert.new.self q) c.in-Some.ensures firsts
+          (λ q. c.in_ok-next-2.ensures.updates.0 q);
       linked = λ q. linked_step (at_line q) up c.points.next.items k w c.points.invariant.len within
           (subst (λ (n : ℕ). IsLinked (at_line q) up c.points.next.items n) next (c.points.invariant.linked q))
           (λ passes. line_here up k _ within line q w c.in-Some.ensures before (passes _));

@@ -7,7 +7,8 @@ use Rattle.report_table.proofs.placing.test_places.Goals as goal
 pub returns-in-Ok-None-clause-fault : goal.returns-in-Ok-None-clause-fault
 returns-in-Ok-None-clause-fault c =
     subst (λ (o : Option ReportFault). TellsFault o c.bad_key_line.result)
-    (sym (bad_here c.args.points.now c.points.point-index _ c.points-test.true c.in-Ok-None.field-0 c.points.invariant.placed c.in-Ok-None.field-0-is c.in-Ok-None.ensures))
+    (sym (bad_here c.args.points.now c.points.point-index _ c.points-test.true c.in-Ok-None.field-0 c.points.invariant.placed c.in-Ok-None.field-0-is
+    c.in-Ok-None.ensures))
     c.bad_key_line.ensures
 
 pub points-preserved : goal.points-preserved

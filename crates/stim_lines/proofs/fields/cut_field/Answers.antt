@@ -8,4 +8,5 @@ returns-then-len-eq0-clause-none c =
 
 pub returns-clause-field : goal.returns-clause-field
 returns-clause-field c =
-    field-taken c.args.line.now c.blank_len.result c.field_len-len.result c.blank_len.ensures.value c.field_len-len.ensures.value c.field_len-len.ensures.within (omega arith)
+    field-taken c.args.line.now c.blank_len.result c.field_len-len.result c.blank_len.ensures.value c.field_len-len.ensures.value
+    c.field_len-len.ensures.within (omega arith)

@@ -35,7 +35,8 @@ overflow_cast-best g c = let l = c.greatest-best.ensures.given in let n = c.pick
 -- the gain of the best
 gained : (g : Rattle.test_rank.proofs.choose.choose.Given.Over) (c : goal.After-cover g)
     → c.get.result ≡ gain c.args.covers.now (tests_of c.picks.picks) c.greatest-best.result
-gained g c = c.get.ensures ∙ gain-marked c.args.covers.now (tests_of c.picks.picks) (marked c.picks.covered) c.picks.gains c.greatest-best.result c.picks.invariant.covered c.picks.invariant.gains
+gained g c = c.get.ensures ∙ gain-marked c.args.covers.now (tests_of c.picks.picks) (marked c.picks.covered) c.picks.gains c.greatest-best.result
+    c.picks.invariant.covered c.picks.invariant.gains
 
 some : (g : Rattle.test_rank.proofs.choose.choose.Given.Over) (c : goal.After-cover g) → 0 < total c.picks.gains
 some g c = let l = c.picks-test.true in let e = c.left.ensures in omega arith
@@ -72,11 +73,13 @@ picks-preserved g c =
     record {
       gains = c.cover.ensures.gains;
       len = c.cover.ensures.len ∙ inv.len;
-      covered = step-covered covers (tests_of c.picks.picks) (tests_of c.push.new.self) best (marked c.picks.covered) (marked c.cover.new.covered) tests inv.covered c.cover.ensures.covered;
+      covered = step-covered covers (tests_of c.picks.picks) (tests_of c.push.new.self) best (marked c.picks.covered) (marked c.cover.new.covered) tests
+          inv.covered c.cover.ensures.covered;
       room = λ t p among. let l = inv.room t p among in let e = c.cover.ensures.room in omega arith;
       begins = rw tests (begins-more covers (tests_of c.picks.picks) best inv.begins comes);
       points = step-points covers c.picks.picks c.push.new.self best c.get.result pushed inv.points (gained g c);
-      marks = step-marks (tests_of c.picks.picks) (tests_of c.push.new.self) best (marked c.picks.chosen) (marked c.mark.new.self) tests inv.marks c.mark.ensures.marked;
+      marks = step-marks (tests_of c.picks.picks) (tests_of c.push.new.self) best (marked c.picks.chosen) (marked c.mark.new.self) tests inv.marks
+          c.mark.ensures.marked;
       marks_room = c.mark.ensures.len ∙ inv.marks_room;
       most = let l = less g c in let m = inv.most in omega arith;
       ticks =
@@ -92,7 +95,8 @@ pub returns-clause-chosen : goal.returns-clause-chosen
 returns-clause-chosen g c =
     let zero : total c.picks.gains ≡ 0 = let l = c.picks-test.false in let e = c.left.ensures in omega arith in
     begins-whole c.args.covers.now (tests_of c.picks.picks) c.picks.invariant.begins
-    (λ t. sym (gain-marked c.args.covers.now (tests_of c.picks.picks) (marked c.picks.covered) c.picks.gains t c.picks.invariant.covered c.picks.invariant.gains) ∙ zero-total c.picks.gains t zero)
+    (λ t. sym (gain-marked c.args.covers.now (tests_of c.picks.picks) (marked c.picks.covered) c.picks.gains t c.picks.invariant.covered
+    c.picks.invariant.gains) ∙ zero-total c.picks.gains t zero)
 
 pub returns-clause-most : goal.returns-clause-most
 returns-clause-most g c = let m = c.picks.invariant.most in let f = c.in_ok-gains.ensures.most in omega arith

@@ -43,8 +43,10 @@ points-preserved g c =
       | then-not-has w ↦
           let fresh : marked c.points.covered point ≡ false = sym c.has.ensures ∙ w.if-not-has.true in
           rw (w.covered-is, w.gains-is, w.steps-is) (record {
-            gains = gains-lowered c.args.covers.now (marked c.points.covered) (marked w.mark.new.self) point w.tests_at.result.now c.points.gains w.lower_all.new.self inv.gains fresh w.mark.ensures.marked w.tests_at.ensures w.lower_all.ensures.lowered;
-            covered = λ p. marks-more (marked c.args.covered.now p) (is_among (take k points) p) (marked c.points.covered p) (marked w.mark.new.self p) (eqb p point) (inv.covered p) (w.mark.ensures.marked p)
+            gains = gains-lowered c.args.covers.now (marked c.points.covered) (marked w.mark.new.self) point w.tests_at.result.now c.points.gains
+                w.lower_all.new.self inv.gains fresh w.mark.ensures.marked w.tests_at.ensures w.lower_all.ensures.lowered;
+            covered = λ p. marks-more (marked c.args.covered.now p) (is_among (take k points) p) (marked c.points.covered p) (marked w.mark.new.self p)
+                (eqb p point) (inv.covered p) (w.mark.ensures.marked p)
                 ∙ ap (λ (b : Bool). marked c.args.covered.now p || b) (sym (among p));
             room = w.mark.ensures.len ∙ inv.room;
             len = w.lower_all.ensures.len ∙ inv.len;
@@ -55,7 +57,8 @@ points-preserved g c =
           let before : marked c.points.covered point ≡ true = sym c.has.ensures ∙ w.if-not-has.false in
           rw (w.covered-is, w.gains-is, w.steps-is) (record {
             gains = inv.gains;
-            covered = λ p. marks-again (marked c.args.covered.now p) (is_among (take k points) p) (marked c.points.covered p) (eqb p point) (inv.covered p) (λ is. ap (marked c.points.covered) (eqb-is p point is) ∙ before)
+            covered = λ p. marks-again (marked c.args.covered.now p) (is_among (take k points) p) (marked c.points.covered p) (eqb p point) (inv.covered p)
+                (λ is. ap (marked c.points.covered) (eqb-is p point is) ∙ before)
                 ∙ ap (λ (b : Bool). marked c.args.covered.now p || b) (sym (among p));
             room = inv.room;
             len = inv.len;

@@ -16,7 +16,8 @@ returns-then-byte-words c =
     let text = c.args.text.now in let words = c.args.words.now in let k = c.loop-at.said in
     let turn = squeezed-byte text c.loop-at.at c.begins_with_gaps.result c.loop-at-test.true c.begins_with_gaps.ensures c.if-not-begins_with_gaps.true in
     let some : k < length words = omega arith in
-    sym (same-other (as_space (get_or text c.loop-at.at 0)) (squeezed (drop (c.loop-at.at + 1) text)) words k some (λ e. c.if-byte-words.true (c.as_space-byte.ensures ∙ e)))
+    sym (same-other (as_space (get_or text c.loop-at.at 0)) (squeezed (drop (c.loop-at.at + 1) text)) words k some
+    (λ e. c.if-byte-words.true (c.as_space-byte.ensures ∙ e)))
     ∙ sym (ap (λ (xs : List ℕ). bytes_eq xs (drop k words)) turn) ∙ c.loop-at.invariant.same
 
 pub loop-at-preserved : goal.loop-at-preserved

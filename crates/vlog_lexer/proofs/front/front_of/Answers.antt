@@ -50,7 +50,8 @@ returns-then-first-eq96-clause-value c =
       name = sym c.begins_name.ensures ∙ c.if-begins_name.false;
       number = sym c.begins_number.ensures ∙ c.if-begins_number.false;
     } in
-    given-at 1 c.args.text.now directive_piece _ (front.at-back c.args.text.now other c.if-first-eq34.false c.if-first-eq36.false c.if-first-eq96.true) c.directive_piece.ensures.value
+    given-at 1 c.args.text.now directive_piece _ (front.at-back c.args.text.now other c.if-first-eq34.false c.if-first-eq36.false c.if-first-eq96.true)
+    c.directive_piece.ensures.value
 
 pub returns-then-starts_with-clause-value : goal.returns-then-starts_with-clause-value
 returns-then-starts_with-clause-value c =

@@ -13,8 +13,10 @@ loop-digit-init c = record {
 pub loop-digit-preserved : goal.loop-digit-preserved
 loop-digit-preserved c = record {
   small = c.with_free-bits.ensures.small;
-  same = free-on c.args.base c.loop-digit.bits c.with_free-bits.result c.args.digits.now c.loop-digit.digit-index _ c.loop-digit-test.true c.with_free-bits.ensures.value c.loop-digit.invariant.same;
+  same = free-on c.args.base c.loop-digit.bits c.with_free-bits.result c.args.digits.now c.loop-digit.digit-index _ c.loop-digit-test.true
+      c.with_free-bits.ensures.value c.loop-digit.invariant.same;
 }
 
 pub returns : goal.returns
-returns c = free-done c.args.base c.loop-digit.bits c.args.digits.now c.loop-digit.digit-index _ c.loop-digit.invariant.small (omega arith) c.loop-digit.invariant.same
+returns c = free-done c.args.base c.loop-digit.bits c.args.digits.now c.loop-digit.digit-index _ c.loop-digit.invariant.small (omega arith)
+    c.loop-digit.invariant.same

@@ -7,13 +7,16 @@ loop-digit-init c = record { small = omega arith; same = value-start c.args.base
 
 pub returns-in-None : goal.returns-in-None
 returns-in-None c =
-    value-stop c.args.base c.loop-digit.value c.args.digits.now c.loop-digit.digit-index _ c.requires c.loop-digit-test.true c.in-None.ensures.value c.loop-digit.invariant.same
+    value-stop c.args.base c.loop-digit.value c.args.digits.now c.loop-digit.digit-index _ c.requires c.loop-digit-test.true c.in-None.ensures.value
+    c.loop-digit.invariant.same
 
 pub loop-digit-preserved : goal.loop-digit-preserved
 loop-digit-preserved c = record {
   small = c.in-Some.ensures.small;
-  same = value-on c.args.base c.loop-digit.value c.in-Some.more c.args.digits.now c.loop-digit.digit-index _ c.loop-digit-test.true c.in-Some.ensures.value c.loop-digit.invariant.same;
+  same = value-on c.args.base c.loop-digit.value c.in-Some.more c.args.digits.now c.loop-digit.digit-index _ c.loop-digit-test.true c.in-Some.ensures.value
+      c.loop-digit.invariant.same;
 }
 
 pub returns : goal.returns
-returns c = value-done c.args.base c.loop-digit.value c.args.digits.now c.loop-digit.digit-index _ c.loop-digit.invariant.small (omega arith) c.loop-digit.invariant.same
+returns c = value-done c.args.base c.loop-digit.value c.args.digits.now c.loop-digit.digit-index _ c.loop-digit.invariant.small (omega arith)
+    c.loop-digit.invariant.same

@@ -30,12 +30,14 @@ returns-in-Refused c =
     let here = c.place.ensures _ (c.after-here.ensures.value _ c.loop-at.invariant.position)
     ∙ ap (place_after c.args.file) (piece_bytes text at refusal.offset) in
     subst (λ (f : LexFault). Answers c.args.file text (Err f)) (sym c.fault_at.ensures)
-    (refused_answers c.args.file text c.loop-at.found.tokens c.loop-at.found.pragmas at refusal c.place.result c.loop-at-test.true c.loop-at.invariant.read front here)
+    (refused_answers c.args.file text c.loop-at.found.tokens c.loop-at.found.pragmas at refusal c.place.result c.loop-at-test.true c.loop-at.invariant.read
+    front here)
 
 pub returns-in-Err-add : goal.returns-in-Err-add
 returns-in-Err-add c =
     let text = c.args.text.now in let at = c.loop-at.at in
-    adding_answers c.args.file text c.loop-at.found.tokens c.loop-at.found.pragmas at c.in-Ok.field-0.len c.in-Ok.field-0.what c.in-Err-add.fault c.loop-at.invariant.read
+    adding_answers c.args.file text c.loop-at.found.tokens c.loop-at.found.pragmas at c.in-Ok.field-0.len c.in-Ok.field-0.what c.in-Err-add.fault
+    c.loop-at.invariant.read
     (front_here text at _ c.in-Ok.ensures.value) c.in-Err-add.ensures.refused
 
 pub loop-at-preserved : goal.loop-at-preserved
@@ -52,12 +54,15 @@ loop-at-preserved c =
       within = omega arith;
       line = omega arith;
       column = omega arith;
-      position = subst (λ (xs : List ℕ). IsPosition xs c.after-position.result) (piece_bytes text at len) (c.after-position.ensures.value _ c.loop-at.invariant.position);
+      position = subst (λ (xs : List ℕ). IsPosition xs c.after-position.result) (piece_bytes text at len)
+          (c.after-position.ensures.value _ c.loop-at.invariant.position);
       nesting = omega (arith, told.nesting);
       braces = omega (arith, told.braces);
       operators = omega (arith, told.operators);
       branches = omega (arith, told.branches);
       counts = told.counts;
-      read = read_next c.args.file text c.loop-at.found.tokens c.add.new.found.tokens c.loop-at.found.pragmas c.add.new.found.pragmas at c.in-Ok.field-0.what len c.place-in-Ok.result
-          c.loop-at.invariant.read (front_here text at _ c.in-Ok.ensures.value) told.within (c.place-in-Ok.ensures _ c.loop-at.invariant.position) told.tokens told.pragmas;
+      read = read_next c.args.file text c.loop-at.found.tokens c.add.new.found.tokens c.loop-at.found.pragmas c.add.new.found.pragmas at c.in-Ok.field-0.what
+          len c.place-in-Ok.result
+          c.loop-at.invariant.read (front_here text at _ c.in-Ok.ensures.value) told.within (c.place-in-Ok.ensures _ c.loop-at.invariant.position)
+          told.tokens told.pragmas;
     }

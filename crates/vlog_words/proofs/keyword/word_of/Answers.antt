@@ -69,7 +69,9 @@ pub returns-in-120 : goal.returns-in-120
 returns-in-120 c = c.word_x.ensures ∙ words.at_x c.args.bytes.now c.in-120.is
 
 pub returns-in_default-first : goal.returns-in_default-first
-returns-in_default-first c = words.elsewhere c.args.bytes.now (omega arith) (omega arith) (omega arith) (omega arith) (omega arith) (omega arith) (omega arith) (omega arith) (omega arith) (omega arith) (omega arith) (omega arith) (omega arith) (omega arith) (omega arith) (omega arith) (omega arith) (omega arith) (omega arith) (omega arith) (omega arith) (omega arith)
+returns-in_default-first c = words.elsewhere c.args.bytes.now (omega arith) (omega arith) (omega arith) (omega arith) (omega arith) (omega arith)
+    (omega arith) (omega arith) (omega arith) (omega arith) (omega arith) (omega arith) (omega arith) (omega arith) (omega arith) (omega arith) (omega arith)
+    (omega arith) (omega arith) (omega arith) (omega arith) (omega arith)
 
 pub returns-in_default : goal.returns-in_default
 returns-in_default c = words.empty c.args.bytes.now (omega arith)

@@ -49,7 +49,8 @@ value n = live (256 - n) vnil
 
 -- what such a variant owns
 abbrev owned : ℕ → Fml
-owned n = fex (List Val) (λ us. fsep (feq (List Val) (value n ∷ []) (live (256 - n) (of_list us) ∷ [])) (fex (Unit {0}) (λ _. fsep (feq (List Val) us []) ftrue)))
+owned n = fex (List Val) (λ us. fsep (feq (List Val) (value n ∷ []) (live (256 - n) (of_list us) ∷ []))
+    (fex (Unit {0}) (λ _. fsep (feq (List Val) us []) ftrue)))
 
 -- the arms of a match that begins a body
 abbrev arms_of : Body → Arms
@@ -68,7 +69,8 @@ module _ {M : Type 1} {𝓤 : Ura M} (𝓛 : Logic 𝓤) (𝓜 : Model 𝓤 𝓛
   Ends = let W = walk_of 𝓛 f.ended stayed (f.clauses 𝓛 𝓜.mem 𝓡.returns) in W.post ((tt, qs, tt, (d, tt), (vals L.the_type the_laws d, tt)), tt)
 
   abbrev Goes : Type 1
-  Goes = ent 𝓤 (sep 𝓤 (on_entry 𝓛 f.signature tt qs (d, tt) (vals L.the_type the_laws d, tt)) (emp 𝓤)) (WpFn 𝓤 𝓛.H 𝓣.C 𝓣.Λ code.function (val L.the_type the_laws d ∷ []) Ends)
+  Goes = ent 𝓤 (sep 𝓤 (on_entry 𝓛 f.signature tt qs (d, tt) (vals L.the_type the_laws d, tt)) (emp 𝓤))
+      (WpFn 𝓤 𝓛.H 𝓣.C 𝓣.Λ code.function (val L.the_type the_laws d ∷ []) Ends)
 
   module _ (l : ℕ → ℕ) where
     abbrev E : Env 𝓤 𝓛.H
@@ -94,12 +96,14 @@ module _ {M : Type 1} {𝓤 : Ura M} (𝓛 : Logic 𝓤) (𝓜 : Model 𝓤 𝓛
         returns ! (look_at ! 0 refl) $ free_all ! refl $
         suffices ! _ (ends_at 𝓛 f.ended stayed c ((tt, qs, tt, (d, tt), (vals L.the_type the_laws d, tt)), tt) (value n) made (tt, tt) (tt, tt)) $ says ! is $
         nothing ! $ feq_i ! (List Val) [] [] refl $ fjoin ! $ fpack ! (Unit {0}) (λ _. fsep (feq (List Val) [] []) ftrue) tt $
-        feq_i ! (List Val) (value n ∷ []) (value n ∷ []) refl $ fjoin ! $ fpack ! (List Val) (λ us. fsep (feq (List Val) (value n ∷ []) (live (256 - n) (of_list us) ∷ [])) (fex (Unit {0}) (λ _. fsep (feq (List Val) us []) ftrue))) [] $
+        feq_i ! (List Val) (value n ∷ []) (value n ∷ []) refl $ fjoin ! $ fpack ! (List Val)
+        (λ us. fsep (feq (List Val) (value n ∷ []) (live (256 - n) (of_list us) ∷ [])) (fex (Unit {0}) (λ _. fsep (feq (List Val) us []) ftrue))) [] $
         rewrite ! 0 (λ (F : Fml). ‵ F) owns refl $
         nothing ! $ nothing ! $ join ! $ nothing ! $ done !
 
     abbrev Chosen : Type 1
-    Chosen = Sq 𝓛 (holding 𝓛 E ((1, val L.the_type the_laws d) ∷ [])) (prop (WpArms 𝓤 𝓛.H 𝓣.C 𝓣.Λ E (arms_of (code.function).body) (tag_of L.the_type d) (post 𝓤 𝓛.H then)))
+    Chosen = Sq 𝓛 (holding 𝓛 E ((1, val L.the_type the_laws d) ∷ []))
+        (prop (WpArms 𝓤 𝓛.H 𝓣.C 𝓣.Λ E (arms_of (code.function).body) (tag_of L.the_type d) (post 𝓤 𝓛.H then)))
 
   walk : Is L.the_row d (vals L.the_type the_laws d) → ((l : ℕ → ℕ) → Chosen l) → Goes
   walk is chosen =

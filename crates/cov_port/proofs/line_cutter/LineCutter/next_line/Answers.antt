@@ -8,13 +8,15 @@ pub returns-in-Ok-Some-clause-line : goal.returns-in-Ok-Some-clause-line
 returns-in-Ok-Some-clause-line g c =
     let found = c.in-Ok-Some.ensures in
     line_told (left_of c.args.self.now (g.F.Files.rest c.args.files.now)) c.seek.new.self c.give.new.self (g.F.Files.rest c.seek.new.files) c.in-Ok-Some.at
-    found.left found.within (rw c.in-Ok-Some.field-0-is at found.feed) (ap (λ (cutter : Cutter). cutter.ahead) c.give.ensures) (ap (λ (cutter : Cutter). cutter.line) c.give.ensures)
+    found.left found.within (rw c.in-Ok-Some.field-0-is at found.feed) (ap (λ (cutter : Cutter). cutter.ahead) c.give.ensures)
+    (ap (λ (cutter : Cutter). cutter.line) c.give.ensures)
 
 pub returns-in-Ok-None-clause-line : goal.returns-in-Ok-None-clause-line
 returns-in-Ok-None-clause-line g c =
     let rest = c.in-Ok-None.ensures in
     let ends = rw c.in-Ok-None.field-0-is at rest.ends in
-    rest_told (left_of c.args.self.now (g.F.Files.rest c.args.files.now)) c.seek.new.self c.give_rest.new.self (g.F.Files.rest c.seek.new.files) c.give_rest.result
+    rest_told (left_of c.args.self.now (g.F.Files.rest c.args.files.now)) c.seek.new.self c.give_rest.new.self (g.F.Files.rest c.seek.new.files)
+    c.give_rest.result
     rest.left ends.0 ends.1 ends.2 (ap (λ (cutter : Cutter). cutter.ahead) c.give_rest.ensures.value)
     (ap (λ (cutter : Cutter). cutter.line) c.give_rest.ensures.value) c.give_rest.ensures.step
 

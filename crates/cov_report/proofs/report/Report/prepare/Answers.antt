@@ -17,7 +17,8 @@ returns-in-Err-clause-fault c =
     let named = c.in_ok-chosen.ensures.names ∙ names_annotated options.all options.min counts c.as_slice.result.now (ap seen_tables c.as_slice.ensures.value
     ∙ c.in_ok-tables.ensures.tables) in
     let is : prepare_fault options counts
-    ≡ name_fault_if options.annotate c.as_slice-2.result.now = prepare_is options counts c.as_slice-2.result.now c.in_ok-tables.ensures.sound (c.as_slice-2.ensures ∙ named) in
+    ≡ name_fault_if options.annotate c.as_slice-2.result.now = prepare_is options counts c.as_slice-2.result.now c.in_ok-tables.ensures.sound
+    (c.as_slice-2.ensures ∙ named) in
     subst (λ (o : Option ReportFault). TellsFault o c.in-Err.fault) (sym is) c.in-Err.ensures.fault
 
 pub returns-clause-sound : goal.returns-clause-sound
@@ -27,7 +28,8 @@ returns-clause-sound c =
     let named = c.in_ok-chosen.ensures.names ∙ names_annotated options.all options.min counts c.as_slice.result.now (ap seen_tables c.as_slice.ensures.value
     ∙ c.in_ok-tables.ensures.tables) in
     let is : prepare_fault options counts
-    ≡ name_fault_if options.annotate c.as_slice-2.result.now = prepare_is options counts c.as_slice-2.result.now c.in_ok-tables.ensures.sound (c.as_slice-2.ensures ∙ named) in
+    ≡ name_fault_if options.annotate c.as_slice-2.result.now = prepare_is options counts c.as_slice-2.result.now c.in_ok-tables.ensures.sound
+    (c.as_slice-2.ensures ∙ named) in
     is ∙ c.in_default.ensures.sound
 
 pub invariant_of-result : goal.invariant_of-result
@@ -39,6 +41,7 @@ invariant_of-result c =
     record {
       tabled = c.in_ok-tables.ensures.tables;
       named = named;
-      stands = λ i within. subst (λ (ts : List FileTable). StandsAt ts (get_or c.in_ok-chosen.chosen.places.items i 0) (get_or c.in_ok-chosen.chosen.names i [])) c.as_slice.ensures.value (c.in_ok-chosen.ensures.places i within);
+      stands = λ i within. subst (λ (ts : List FileTable). StandsAt ts (get_or c.in_ok-chosen.chosen.places.items i 0)
+          (get_or c.in_ok-chosen.chosen.names i [])) c.as_slice.ensures.value (c.in_ok-chosen.ensures.places i within);
       len = c.in_ok-chosen.ensures.len;
     }

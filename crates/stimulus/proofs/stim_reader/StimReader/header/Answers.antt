@@ -10,4 +10,5 @@ returns-in-Ok-true-clause-rows g c =
 pub returns-in-Ok-true-clause-fault : goal.returns-in-Ok-true-clause-fault
 returns-in-Ok-true-clause-fault g c =
     let comes = rw (c.in-Ok-true.field-0-test, c.in-Ok.ensures) at c.in-Ok-true.ensures.comes in
-    header_refused c.start.result c.args.design.now c.next_spoken.new.self (g.F.Files.rest c.args.files.now) (g.F.Files.rest c.next_spoken.new.files) comes c.start.ensures.fault
+    header_refused c.start.result c.args.design.now c.next_spoken.new.self (g.F.Files.rest c.args.files.now) (g.F.Files.rest c.next_spoken.new.files) comes
+    c.start.ensures.fault

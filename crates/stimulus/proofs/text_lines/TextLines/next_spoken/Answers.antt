@@ -21,7 +21,8 @@ returns-then-speaks-clause-spoken c =
     let cut = c.cut_line-cut.result in
     let at = c.lines.self-inside in
     rw (← c.self.view_is) (sym c.lines.invariant.left
-    ∙ text-spoken at.number at.bytes c.line_bytes.result at.rest.now cut.rest.now cut.line.now cut.ended c.in-Ok.speaks c.cut_line-cut.ensures.lines c.line_bytes.ensures.value
+    ∙ text-spoken at.number at.bytes c.line_bytes.result at.rest.now cut.rest.now cut.line.now cut.ended c.in-Ok.speaks c.cut_line-cut.ensures.lines
+    c.line_bytes.ensures.value
     c.if-speaks.true (c.in-Ok.ensures.says cut.ended))
 
 pub lines-preserved : goal.lines-preserved
@@ -29,7 +30,8 @@ lines-preserved c =
     let cut = c.cut_line-cut.result in
     let at = c.lines.self-inside in
     record {
-      left = sym (text-skipped at.number at.bytes c.line_bytes.result at.rest.now cut.rest.now cut.line.now cut.ended c.in-Ok.speaks c.cut_line-cut.ensures.lines c.line_bytes.ensures.value
+      left = sym (text-skipped at.number at.bytes c.line_bytes.result at.rest.now cut.rest.now cut.line.now cut.ended c.in-Ok.speaks
+          c.cut_line-cut.ensures.lines c.line_bytes.ensures.value
           c.if-speaks.false (c.in-Ok.ensures.says cut.ended)) ∙ c.lines.invariant.left;
       placed = record {
         counted = omega (arith, c.cut_line-cut.ensures.bytes, c.lines.invariant.placed.counted);

@@ -20,7 +20,8 @@ invariant_of-self-2 c =
     let one = length_pushed covers points in
     let small : length covers < 4294967295 = omega arith in
     rw pushed (
-      index-pushed covers points c.self.inside.index c.add.new.self c.self.invariant.0 (subst (λ (n : ℕ). HasAdded n points c.self.inside.index c.add.new.self) number c.in_ok-add.ensures.ok),
+      index-pushed covers points c.self.inside.index c.add.new.self c.self.invariant.0
+          (subst (λ (n : ℕ). HasAdded n points c.self.inside.index c.add.new.self) number c.in_ok-add.ensures.ok),
       ap (λ (n : ℕ). n + length points) c.self.invariant.1 ∙ sym (pairs-pushed covers points),
       c.if-pairs-gt-MOST_PAIRS.false,
       omega arith,
@@ -28,4 +29,5 @@ invariant_of-self-2 c =
     )
 
 pub returns-clause-within : goal.returns-clause-within
-returns-clause-within c = rw (← c.self.view_is) (limit-within c.self.inside.tests c.args.points.now c.self.inside.pairs c.self.invariant.1 c.if-pairs-gt-MOST_PAIRS.false)
+returns-clause-within c = rw (← c.self.view_is)
+    (limit-within c.self.inside.tests c.args.points.now c.self.inside.pairs c.self.invariant.1 c.if-pairs-gt-MOST_PAIRS.false)

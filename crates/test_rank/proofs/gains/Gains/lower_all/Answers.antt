@@ -30,7 +30,8 @@ tests-preserved g c =
     let k = c.tests.test-index in
     let test = get_or tests k 0 in
     record {
-      lowered = λ t. one-more (get_or c.tests.self t 0) (get_or c.lower.new.self t 0) (get_or c.args.self.now t 0) test k t tests 0 refl (c.tests.invariant.lowered t) (count-take_more t tests k c.tests-test.true)
+      lowered = λ t. one-more (get_or c.tests.self t 0) (get_or c.lower.new.self t 0) (get_or c.args.self.now t 0) test k t tests 0 refl
+          (c.tests.invariant.lowered t) (count-take_more t tests k c.tests-test.true)
           (λ same. ap (λ (j : ℕ). get_or c.lower.new.self j 0 + 1) same ∙ c.lower.ensures.here
           ∙ ap (λ (j : ℕ). get_or c.tests.self j 0) (sym same)) (c.lower.ensures.others t);
       len = c.lower.ensures.len ∙ c.tests.invariant.len;

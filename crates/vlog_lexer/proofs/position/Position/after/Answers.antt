@@ -11,7 +11,8 @@ loop-byte-preserved c =
         line_within = omega arith;
         column_within = omega arith;
         at = λ before is. moved (before ++ take (i + 1) bytes) _ _ _ _ w.line-is w.column-is
-            (behind_line_feed before bytes i c.loop-byte.line c.loop-byte.column c.loop-byte-test.true w.if-byte-eq10.true (c.loop-byte.invariant.at before is));
+            (behind_line_feed before bytes i c.loop-byte.line c.loop-byte.column c.loop-byte-test.true w.if-byte-eq10.true
+            (c.loop-byte.invariant.at before is));
       }
       | else-byte-eq10 w ↦ record {
         line_within = omega arith;
