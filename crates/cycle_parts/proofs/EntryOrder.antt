@@ -61,6 +61,22 @@ between a b c h k same = record { var = var; word = omega (arith, ab.words var, 
     var : a.var ≡ b.var
     var = omega (arith, ab.vars, bc.vars, same.var)
 
+-- in one word the bits ascend
+never_less : Equal ≡ Less → ⊥
+never_less e = cc e
+
+pub by_bits : (a b : ToggleEntry) → IsBefore (toggle_place a) (toggle_place b) → AreOfOneWord a b → a.bit < b.bit
+by_bits a b h same = elim (first_or_rest a.var b.var _ h) [
+  | inl less ↦ absurd (omega (arith, less, same.var))
+  | inr r ↦ elim (first_or_rest a.word b.word _ r.1) [
+    | inl less ↦ absurd (omega (arith, less, same.word))
+    | inr q ↦ elim (first_or_rest a.bit b.bit _ q.1) [
+      | inl less ↦ less
+      | inr e ↦ absurd (never_less e.1)
+    ]
+  ]
+]
+
 pub all_between : (es : List ToggleEntry) → AllPairs (λ a b. IsBefore (toggle_place a) (toggle_place b)) es → (at last : ℕ) → last < length es
     → AreOfOneWord (entry_at es at) (entry_at es last) → (k : ℕ) → at ≤ k → k ≤ last → AreOfOneWord (entry_at es at) (entry_at es k)
 all_between es ascend at last within same k from upto = elim (cases_eq at k) [

@@ -14,9 +14,9 @@ use Rattle.design_meaning.specs.States.{IsBitOf, var_of}
 use Rattle.design_meaning.specs.Valid.{AreToggles}
 use Rattle.design_meaning.specs.ValidVariables.{IsVariable}
 use Rattle.place_marks.specs.Marked.{IsNext, NoneFrom, is_marked}
-use Rattle.cycle_parts.specs.Toggles.{AreFirsts, entry_at, no_entry}
-use Rattle.cycle_parts.proofs.EntryOrder.{vars_ascend}
-use Rattle.cycle_parts.proofs.ToggleLaws.{length_range, passed}
+use Rattle.cycle_parts.specs.Toggles.{AreFirsts, AreOfOneWord, DoBitsAscend, entry_at, no_entry}
+use Rattle.cycle_parts.proofs.EntryOrder.{by_bits, vars_ascend}
+use Rattle.cycle_parts.proofs.ToggleLaws.{in_range, length_range, passed}
 
 -- of the first n variables, with so many entries before the last of them
 pub record AreFirstsTo (n : ℕ) (es : List ToggleEntry) (at : ℕ) (firsts : List ℕ) : Type 0 where
@@ -137,3 +137,16 @@ places_fit x variables toggles i j le within k d lt =
   where
     fits : (e : ToggleEntry) → IsBitOf x.design (toggle_bit e) → e.bit < 128
     fits e is = omega (arith, is.in_width, few_places (var_of x.design e.var) (variables e.var no_var is.of_variable))
+
+-- the bits of the entries of one word ascend
+pub bits_ascend : (x : Instrumented) → AreToggles x → (i j : ℕ) → i ≤ j → j ≤ length x.toggles
+    → ((k : ℕ) → i ≤ k → k < j → AreOfOneWord (entry_at x.toggles i) (entry_at x.toggles k)) → DoBitsAscend (slice_range x.toggles i j)
+bits_ascend x toggles i j le within same a b lt here =
+    let few : b < j - i = omega (arith, here, length_range x.toggles i j le within) in
+    let es = x.toggles in
+    let one = same (i + a) (omega arith) (omega (arith, lt, few)) in
+    let other = same (i + b) (omega arith) (omega (arith, few)) in
+    subst (λ (u : ToggleEntry). u.bit < (entry_at (slice_range es i j) b).bit) (sym (in_range es i j a le (omega (arith, lt, few))))
+    (subst (λ (u : ToggleEntry). (entry_at es (i + a)).bit < u.bit) (sym (in_range es i j b le few))
+    (by_bits (entry_at es (i + a)) (entry_at es (i + b)) (toggles.ascend (i + a) (i + b) no_entry (omega (arith, lt)) (omega (arith, few, within)))
+    (record { var = sym one.var ∙ other.var; word = sym one.word ∙ other.word })))

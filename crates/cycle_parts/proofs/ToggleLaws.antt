@@ -1,12 +1,12 @@
 -- Toggle entries word by word.
-use Rattle.std.proofs.Common.{◌≡◌, ◌∙◌, sym, ap, subst, refl, ℕ, suc, ◌+◌, ◌-◌, ◌<◌, ◌≤◌, ◌^◌, ◌==◌, Bool, true, false, cond, not, List, [], ◌∷◌, ◌++◌, filter}
+use Rattle.std.proofs.Common.{◌≡◌, ◌∙◌, sym, ap, subst, refl, ℕ, zero, suc, ◌+◌, ◌-◌, ◌<◌, ◌≤◌, ◌^◌, ◌==◌, Bool, true, false, cond, not, List, [], ◌∷◌, ◌++◌, filter}
 use Rattle.std.proofs.Common.{length, map, take, drop, bit_xor, ◌%◌, ◌≢◌, arith}
 use Rattle.std.specs.Prelude.{Some, slice_index, slice_index_or, slice_range}
 use Rattle.std.specs.Int.{bit_at}
 use Rattle.std.proofs.Math.Seq.{take-add}
 use Rattle.std.proofs.lemmas.Bool.{eq-eqb, ne_eqb}
-use Rattle.std.proofs.lemmas.Nat.Bits.{bit_at-lt, bit_at-zero, bit_at_xor}
-use Rattle.std.proofs.lemmas.List.{take_more, length-take-le, length-drop, get_or-take, get_or-drop, map-append}
+use Rattle.std.proofs.lemmas.Nat.Bits.{bit_at-lt, bit_at_xor}
+use Rattle.std.proofs.lemmas.List.{get_or_default, take_more, length-take-le, length-drop, get_or-take, get_or-drop, map-append}
 use Rattle.std.proofs.lemmas.List.Elements.{filter-append}
 use Rattle.design_tree.specs.declared.instrumented.ToggleEntry.{ToggleEntry}
 use Rattle.circuit_run.specs.States.{State, bit, held}
@@ -76,9 +76,6 @@ same_bits was is k h = ap not (eq-eqb (bit_at was k) (bit_at is k)
 no_bit : (was is k : ℕ) → bit_at (bit_xor was is) k ≡ 0 → not (bit_at was k == bit_at is k) ≡ false
 no_bit was is k h = same_bits was is k (λ e. omega (arith, h, e))
 
-pub none_differing : (was is : ℕ) (es : List ToggleEntry) → bit_xor was is ≡ 0 → differing was is es ≡ []
-none_differing was is es e = none_raised (differs was is) es (λ t. no_bit was is t.bit (ap (λ w. bit_at w t.bit) e ∙ bit_at-zero t.bit))
-
 no_more : (xs : List ℕ) → xs ++ [] ≡ xs
 no_more [] = refl
 no_more (x ∷ xs) = ap (λ l. x ∷ l) (no_more xs)
@@ -96,6 +93,20 @@ module _ (was is : ℕ) (es : List ToggleEntry) (i : ℕ) (x : ToggleEntry) (lt 
   pub same_here : (a b : List ℕ) → differs was is x ≡ false → HasCounted a (differing was is (take i es)) b
       → HasCounted a (differing was is (take (i + 1) es)) b
   same_here a b h ha = subst (λ r. HasCounted a r b) (sym (next false h ∙ no_more (differing was is (take i es)))) ha
+
+-- entries whose bit is no one of the exclusive or raise nothing
+pub none_here : (was is : ℕ) (es : List ToggleEntry) (i j : ℕ) (a b : List ℕ) → i ≤ j → j ≤ length es
+    → ((k : ℕ) → i ≤ k → k < j → bit_at (bit_xor was is) (entry_at es k).bit ≡ 0) → HasCounted a (differing was is (take i es)) b
+    → HasCounted a (differing was is (take j es)) b
+none_here was is es i j a b le within none h =
+    subst (λ k. HasCounted a (differing was is (take k es)) b) (omega (arith, le)) (go (j - i) (omega (arith, le)))
+  where
+    go : (n : ℕ) → i + n ≤ j → HasCounted a (differing was is (take (i + n) es)) b
+    go zero le = subst (λ k. HasCounted a (differing was is (take k es)) b) (omega arith) h
+    go (suc n) le = subst (λ k. HasCounted a (differing was is (take k es)) b) (omega arith)
+        (same_here was is es (i + n) (entry_at es (i + n)) (omega (arith, le, within))
+        (get_or_default es (i + n) no_entry (entry_at es (i + n)) (omega (arith, le, within))) a b
+        (no_bit was is (entry_at es (i + n)).bit (none (i + n) (omega arith) (omega (arith, le)))) (go n (omega (arith, le))))
 
 pub room_for_entry : (was is : ℕ) (a b : List ℕ) (es : List ToggleEntry) (i k : ℕ) → ((k : ℕ) → slice_index a k + length es < 2 ^ 64) → i < length es
     → HasCounted a (differing was is (take i es)) b → slice_index b k + 1 < 2 ^ 64

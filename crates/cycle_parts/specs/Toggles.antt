@@ -15,6 +15,10 @@ pub record AreOfOneWord (a b : ToggleEntry) : Type 0 where
   pub var : a.var ≡ b.var
   pub word : a.word ≡ b.word
 
+-- the bits of entries ascend
+abbrev pub DoBitsAscend : List ToggleEntry → Type 0
+DoBitsAscend entries = (i j : ℕ) → i < j → j < length entries → (entry_at entries i).bit < (entry_at entries j).bit
+
 -- the counters of the entries whose bit differs in two values of their word
 abbrev pub differing : ℕ → ℕ → List ToggleEntry → List ℕ
 differing was is entries = map (λ t. t.counter) (filter (λ t. not (bit_at was t.bit == bit_at is t.bit)) entries)

@@ -6,7 +6,7 @@ ghost use Rattle.design_meaning.specs.States.{IsStateOf};
 ghost use Rattle.design_meaning.specs.Valid.{AreToggles};
 ghost use Rattle.design_meaning.specs.ValidVariables.{IsVariable};
 ghost use Rattle.place_marks.specs.Marked.{is_marked};
-ghost use Rattle.cycle_parts.specs.Toggles.{AreFirsts, AreOfOneWord, differing, entry_at};
+ghost use Rattle.cycle_parts.specs.Toggles.{AreFirsts, AreOfOneWord, DoBitsAscend, differing, entry_at};
 
 use crate::count::raise_one;
 use cov_types::NoMemory;
@@ -48,20 +48,47 @@ fn bit_of(word: u128, place: u8) -> u128
     (word >> place) % 2
 }
 
+/// A place of entries of one word, from one on, up to which no entry's bit is a one: mostly that of the next one.
+fn next_one(entries: &[ToggleEntry], word: u128, at: usize) -> usize
+    requires ascending { DoBitsAscend entries.now }
+    requires places { All (λ entry. entry.bit < 128) entries.now }
+    requires here { at < length entries.now }
+    ensures from { at ≤ result }
+    ensures within { result ≤ length entries.now }
+    ensures none { (k : ℕ) → at ≤ k → k < result → bit_at word (entry_at entries.now k).bit ≡ 0 }
+{
+    let place = u32::from(entries[at].bit);
+    let above = word >> place;
+    if above == 0 {
+        return entries.len();
+    }
+    let zeros = above.trailing_zeros();
+    let next = at + zeros as usize;
+    if next < entries.len() && u32::from(entries[next].bit) == place + zeros {
+        return next;
+    }
+    at
+}
+
 /// Raises the counters of the entries of a word whose bit differs in two values of it.
 fn raise_word(entries: &[ToggleEntry], was: u128, is: u128, counts: &mut [u64])
+    requires ascending { DoBitsAscend entries.now }
     requires places { All (λ entry. entry.bit < 128) entries.now }
     requires fit { (k : ℕ) → slice_index counts.old k + length entries.now < 2 ^ 64 }
     ensures { HasCounted counts.old (differing was is entries.now) counts.new }
 {
     let differing = was ^ is;
-    if differing == 0 {
-        return;
-    }
-    for entry in entries {
+    let mut at = 0;
+    'ones: while at < entries.len() {
+        let next = next_one(entries, differing, at);
+        if next == entries.len() {
+            return;
+        }
+        let entry = &entries[next];
         if bit_of(differing, entry.bit) == 1 {
             raise_one(counts, entry.counter);
         }
+        at = next + 1;
     }
 }
 

@@ -50,5 +50,7 @@ module _ (d : Design) (sort : ProcessKind → Bool) (s : State) (b : Bit) (valid
 
 pub phases_leave : PhasesLeave
 phases_leave d sort s b valid hs hb none =
-    let l : Leaves d b s (turns sort d s) = subst (Leaves d b s) (all_turns sort d s (length d.processes) (omega arith)) (leaves d sort s b valid hs hb none (length d.processes) (omega arith)) in
+    let l : Leaves d b s (turns sort d s) =
+    subst (Leaves d b s) (all_turns sort d s (length d.processes) (omega arith))
+    (leaves d sort s b valid hs hb none (length d.processes) (omega arith)) in
     parts_leave d (turns sort d s).updates (turns sort d s).state b l.of hb l.later ∙ l.now

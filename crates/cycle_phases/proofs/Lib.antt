@@ -2,3 +2,4 @@ pub mod Joined
 pub mod Turning
 pub mod Edge
 pub mod Leave
+pub mod Passing

@@ -1,5 +1,5 @@
 -- The loop over the processes of a phase: the first n have been looked at.
-use Rattle.std.proofs.Common.{◌≡◌, ◌∙◌, sym, ap, subst, refl, ℕ, ◌+◌, ◌<◌, ◌≤◌, Bool, true, false, [], ◌∷◌, length, drop, arith, filter, map}
+use Rattle.std.proofs.Common.{◌≡◌, ◌∙◌, sym, ap, subst, refl, ℕ, zero, suc, ◌+◌, ◌-◌, ◌<◌, ◌≤◌, Bool, true, false, [], ◌∷◌, length, drop, arith, filter, map}
 use Rattle.std.specs.Prelude.{All}
 use Rattle.std.proofs.lemmas.List.{drop_more, take_all, length-append}
 use Rattle.std.proofs.lemmas.List.Elements.{All-append}
@@ -10,7 +10,7 @@ use Rattle.circuit_run.specs.States.{State}
 use Rattle.circuit_run.specs.Outcomes.{Outcome, in_turn, joined}
 use Rattle.design_meaning.specs.States.{IsStateOf}
 use Rattle.design_meaning.specs.Steps.{run_of}
-use Rattle.design_meaning.specs.Processes.{process_of, processes_that, no_process}
+use Rattle.design_meaning.specs.Processes.{process_of, kind_of, processes_that, no_process}
 use Rattle.design_meaning.specs.RunLaws.{after}
 use Rattle.design_meaning.specs.Valid.{IsValidDesign}
 use Rattle.design_meaning.proofs.RunTheorems.{runs_keep_states}
@@ -94,6 +94,16 @@ module _ (sort : ProcessKind → Bool) (d : Design) (s : State) (n : ℕ) (now :
     stand = t.stand;
     ticks = t.ticks ∙ ap (λ ps. old + length ps) (sym (not_here sort d n lt k));
   }
+
+-- some more of which none is of these kinds
+pub no_turns : (sort : ProcessKind → Bool) (d : Design) (s : State) (n m : ℕ) (now : State) (e : Effects) (old new : ℕ) → n ≤ m → m ≤ length d.processes
+    → ((k : ℕ) → n ≤ k → k < m → sort (kind_of d k) ≡ false) → Turning sort d s n now e old new → Turning sort d s m now e old new
+no_turns sort d s n m now e old new le within none t = subst (λ k. Turning sort d s k now e old new) (omega (arith, le)) (go (m - n) (omega (arith, le)))
+  where
+    go : (j : ℕ) → n + j ≤ m → Turning sort d s (n + j) now e old new
+    go zero le = subst (λ k. Turning sort d s k now e old new) (omega arith) t
+    go (suc j) le = subst (λ k. Turning sort d s k now e old new) (omega arith)
+        (no_turn sort d s (n + j) now e old new (omega (arith, le, within)) (go j (omega (arith, le))) (none (n + j) (omega arith) (omega (arith, le))))
 
 pub all_first : (sort : ProcessKind → Bool) (d : Design) (n : ℕ) → length d.processes ≤ n → first_of sort d n ≡ processes_that sort d
 all_first sort d n past = ap (filter (λ p. sort p.kind)) (take_all n d.processes past)

@@ -2,7 +2,9 @@
 #![tactic(auto)]
 
 mod laws;
+mod others;
 mod phase;
 
 pub use laws::edge_runs_in_turn;
+pub use others::mark_others;
 pub use phase::{Phase, run_phase};

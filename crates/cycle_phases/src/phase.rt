@@ -3,10 +3,12 @@ ghost use Rattle.design_meaning.specs.Processes.{processes_that};
 ghost use Rattle.design_meaning.specs.States.{IsStateOf};
 ghost use Rattle.design_meaning.specs.Valid.{IsValidDesign};
 ghost use Rattle.flat_design.specs.Effects.{added, empty, room_of_all};
+ghost use Rattle.cycle_phases.specs.Others.{AreOthers};
 ghost use Rattle.cycle_phases.specs.Phases.{runs_in, turns};
 
 use cov_types::ProcessKind;
 use flat_design::{Design, Effects, State, Steps, run_process};
+use place_marks::PlaceMarks;
 use std::sync::ledger::Ledger;
 
 /// When processes run one after the other.
@@ -29,15 +31,17 @@ fn has_kind(phase: Phase, kind: ProcessKind) -> bool
 }
 
 /// Runs the processes of a phase one after the other, with one tick for each. What they leave beside the state stands in `effects`
-/// then, and their updates are still to be made. It takes no memory.
+/// then, and their updates are still to be made. Of the processes only those are looked at that are no assignments. It takes no memory.
 pub fn run_phase<L: Ledger>(
     design: &Design,
+    others: &PlaceMarks,
     phase: Phase,
     now: &mut State,
     effects: &mut Effects,
     steps: &mut Steps<L>,
 )
     requires valid { IsValidDesign design.now }
+    requires others { AreOthers design.now others.now }
     requires of_design { IsStateOf design.now now.old }
     requires room { effects.old.room ≡ room_of_all design.now }
     ensures state { now.new ≡ (turns (runs_in phase) design.now now.old).state }
@@ -49,9 +53,12 @@ pub fn run_phase<L: Ledger>(
     ensures ticks { steps.new ≡ steps.old + length (processes_that (runs_in phase) design.now) }
 {
     effects.clear();
-    for (at, process) in design.processes.as_slice().iter().enumerate() {
-        if has_kind(phase, process.kind) {
+    let processes = design.processes.as_slice();
+    let mut at = others.next_before(0, processes.len());
+    'process: while at < processes.len() {
+        if has_kind(phase, processes[at].kind) {
             run_process(design, at as u32, now, effects, steps);
         }
+        at = others.next_before(at + 1, processes.len());
     }
 }

@@ -1,15 +1,17 @@
 -- What combinational processes raise, process by process.
-use Rattle.std.proofs.Common.{◌≡◌, ◌∙◌, sym, ap, ap₂, subst, refl, ℕ, zero, suc, ◌+◌, ◌<◌, ◌≤◌, ◌^◌, Bool, true, false, cond, List, [], ◌∷◌, ◌++◌, length, map}
+use Rattle.std.proofs.Common.{◌≡◌, ◌∙◌, sym, ap, ap₂, subst, refl, ℕ, zero, suc, ◌+◌, ◌-◌, ◌<◌, ◌≤◌, ◌^◌, Bool, true, false, cond, List, [], ◌∷◌, ◌++◌, length, map}
 use Rattle.std.proofs.Common.{filter, drop, take, inl, inr, arith}
 use Rattle.std.specs.Prelude.{IsTrue, flat_map, slice_index, slice_index_or}
 use Rattle.std.proofs.lemmas.Bool.{cases_Bool}
 use Rattle.std.proofs.lemmas.List.{take_more, take_all, drop_more, map-append, length-append, get_or_default}
 use Rattle.std.proofs.lemmas.List.Elements.{filter-append}
 use Rattle.std.proofs.lemmas.Grind.{flat_map-append}
+use Rattle.cov_types.specs.declared.kind.ProcessKind.{ProcessKind}
+use Rattle.cov_types.specs.declared.kind.ProcessKind.TheVariants as kind
 use Rattle.design_tree.specs.declared.design.Process.{Process}
 use Rattle.design_tree.specs.declared.design.Design.{Design}
 use Rattle.circuit_run.specs.States.{State}
-use Rattle.circuit_run.specs.Kinds.{is_comb, settles}
+use Rattle.circuit_run.specs.Kinds.{is_assign, is_comb, settles}
 use Rattle.circuit_run.specs.Lists.{total}
 use Rattle.design_meaning.specs.Steps.{run_of}
 use Rattle.design_meaning.specs.Circuit.{as_process, circuit_of}
@@ -81,6 +83,23 @@ not_counted d kept n old new lt c h = record {
   where
     here : kept_below d kept (n + 1) ≡ kept_below d kept n
     here = next_below d kept n ∙ ap (λ b. kept_below d kept n ++ cond b (kept_of kept n).counters []) c ∙ no_more (kept_below d kept n)
+
+-- some more of which none is combinational
+pub none_counted_on : (d : Design) (kept : List Raised) (n m : ℕ) (old new : List ℕ) → n ≤ m → m ≤ length d.processes
+    → ((k : ℕ) → n ≤ k → k < m → is_comb (kind_of d k) ≡ false) → Counted d kept n old new → Counted d kept m old new
+none_counted_on d kept n m old new le within none h = subst (λ k. Counted d kept k old new) (omega (arith, le)) (go (m - n) (omega (arith, le)))
+  where
+    go : (j : ℕ) → n + j ≤ m → Counted d kept (n + j) old new
+    go zero le = subst (λ k. Counted d kept k old new) (omega arith) h
+    go (suc j) le = subst (λ k. Counted d kept k old new) (omega arith)
+        (not_counted d kept (n + j) old new (omega (arith, le, within)) (none (n + j) (omega arith) (omega (arith, le))) (go j (omega (arith, le))))
+
+pub no_comb : (k : ProcessKind) → IsTrue (is_assign k) → is_comb k ≡ false
+no_comb kind.Assign h = refl
+no_comb kind.Comb h = absurd cc
+no_comb kind.Clocked h = absurd cc
+no_comb kind.Initial h = absurd cc
+no_comb kind.Cover h = absurd cc
 
 -- ---- what is kept is what is raised
 

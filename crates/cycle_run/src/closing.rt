@@ -1,6 +1,7 @@
 ghost use Rattle.std.specs.Prelude.{◌≡◌, ◌≤◌, ◌+◌, ◌++◌, length};
 ghost use Rattle.circuit_run.specs.Ends.{end_of};
 ghost use Rattle.circuit_run.specs.Writes.{all_written};
+ghost use Rattle.cycle_phases.specs.Others.{AreOthers};
 ghost use Rattle.cycle_phases.specs.Phases.{runs_in, turns};
 ghost use Rattle.design_meaning.specs.Counters.{HasCounted};
 ghost use Rattle.design_meaning.specs.Processes.{processes_that};
@@ -15,12 +16,14 @@ use crate::line::Line;
 use cycle_parts::raise;
 use cycle_phases::{Phase, run_phase};
 use flat_design::{Design, Effects, State, Steps};
+use place_marks::PlaceMarks;
 use std::sync::ledger::Ledger;
 
 /// Runs the processes of a phase, makes their updates, puts their text behind the line, and raises their counters. Tells how
 /// the run stands then.
 pub fn close_phase<L: Ledger>(
     design: &Design,
+    others: &PlaceMarks,
     phase: Phase,
     now: &mut State,
     effects: &mut Effects,
@@ -29,6 +32,7 @@ pub fn close_phase<L: Ledger>(
     steps: &mut Steps<L>,
 ) -> CycleEnd
     requires valid { IsValidDesign design.now }
+    requires others { AreOthers design.now others.now }
     requires of_design { IsStateOf design.now now.old }
     requires room { effects.old.room ≡ room_of_all design.now }
     requires text { length line.old.bytes + (room_of_all design.now).bytes ≤ line.old.room }
@@ -42,7 +46,7 @@ pub fn close_phase<L: Ledger>(
     ensures raised { length (turns (runs_in phase) design.now now.old).notes ≤ (room_of_all design.now).counters }
     ensures ticks { steps.new ≡ steps.old + length (processes_that (runs_in phase) design.now) }
 {
-    run_phase(design, phase, now, effects, steps);
+    run_phase(design, others, phase, now, effects, steps);
     line.print_text(effects.text());
     raise(counts, effects.raised());
     effects.apply(now);

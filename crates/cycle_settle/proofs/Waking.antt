@@ -1,5 +1,6 @@
 -- Which processes may be passed over: each variable is as it was, or all that read it are marked.
-use Rattle.std.proofs.Common.{◌≡◌, ◌≢◌, ◌∙◌, sym, ap, subst, refl, ℕ, zero, suc, ◌+◌, ◌-◌, ◌*◌, ◌<◌, ◌≤◌, ◌==◌, ◌⊎◌, inl, inr, Bool, true, false, List, [], length, arith}
+use Rattle.std.proofs.Common.{◌≡◌, ◌≢◌, ◌∙◌, sym, ap, subst, refl, ℕ, zero, suc, ◌+◌, ◌-◌, ◌*◌, ◌<◌, ◌≤◌, ◌==◌, ◌⊎◌}
+use Rattle.std.proofs.Common.{inl, inr, Bool, true, false, List, [], length, arith}
 use Rattle.std.specs.Prelude.{All, Any, Contains, IsTrue, slice_index, slice_index_or}
 use Rattle.std.specs.List.{list_any}
 use Rattle.std.specs.Int.{bit_at}
@@ -96,7 +97,8 @@ module _ (d : Design) (order : List ℕ) (w : Wakes) (are : AreWakesOf d order w
     | inr old ↦ inr (still_noted w a c v noted.keeps old)
     | inl quiet ↦ elim (contained (targets_of w p) v) [
       | inl target ↦ inr (of_contained (IsNoted w c) (targets_of w p) v noted.noted target)
-      | inr none ↦ inl (quiet_bits d (after d p now) now v (runs_keep_states d p now valid hn) hn lv (λ b hb e. leaves_others d p now b valid hn hb (undriven b hb e none))
+      | inr none ↦ inl (quiet_bits d (after d p now) now v (runs_keep_states d p now valid hn) hn lv
+          (λ b hb e. leaves_others d p now b valid hn hb (undriven b hb e none))
           ∙ quiet)
     ]
   ]
@@ -108,7 +110,8 @@ module _ (d : Design) (order : List ℕ) (w : Wakes) (are : AreWakesOf d order w
       ]
 
   -- a process whose place isn't marked reads nothing that differs
-  pub idle_at : (reads : List (List WordMask)) → AreReadsOf d reads → IsOrder d order → (now : State) (c : Changes) → IsStateOf d now → AreKnown d w now before c
+  pub idle_at : (reads : List (List WordMask)) → AreReadsOf d reads → IsOrder d order → (now : State) (c : Changes) → IsStateOf d now → AreKnown d w now
+      before c
       → (k : ℕ) → k < length order → is_marked c.places k ≡ false → HasChanged (slice_index_or reads (slice_index_or order k 0) []) now before → ⊥
   idle_at reads read io now c hn known k lt unmarked h = elim (is_bit d h.0) [
     | inr n ↦ h.2 (outside d now h.0 hn n ∙ sym (outside d before h.0 hs n))
@@ -168,7 +171,8 @@ module _ (d : Design) (valid : IsValidDesign d) (flows : Flows d) (order : List 
   stands_on n at now kept new c le within between s = record {
     middle = passed_to d valid flows order io all before final now kept old new whole.reads read hs n at le within
         (λ lt. ((between n (omega arith) lt).0, still (between n (omega arith) lt).0))
-        (λ k l lt. idle_at d order w are before hs whole.reads read io now c s.middle.of (s.known (between k l lt).0) k (omega (arith, lt, within)) (between k l lt).1)
+        (λ k l lt. idle_at d order w are before hs whole.reads read io now c s.middle.of (s.known (between k l lt).0) k (omega (arith, lt, within))
+        (between k l lt).1)
         s.middle;
     known = s.known;
     room = s.room;

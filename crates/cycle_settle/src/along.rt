@@ -77,7 +77,9 @@ fn settle_one<L: Ledger>(
     requires room { effects.old.room ≡ room_of_all design.now }
     requires rooms { HasRooms design.now kept.old }
     requires changes { HasRoomFor wakes.now changes.old }
-    ensures one { (IsRan all design.now order.now p before.now now.old now.new kept.old kept.new steps.old steps.new × HasNoted wakes.now p changes.old changes.new) ⊎ (IsSkipped all order.now p before.now now.old now.new kept.old kept.new steps.old steps.new × (changes.new ≡ changes.old)) }
+    ensures one { (IsRan all design.now order.now p before.now now.old now.new kept.old kept.new steps.old steps.new × HasNoted wakes.now p changes.old
+        changes.new)
+        ⊎ (IsSkipped all order.now p before.now now.old now.new kept.old kept.new steps.old steps.new × (changes.new ≡ changes.old)) }
     ensures room { effects.new.room ≡ effects.old.room }
 {
     if !all && !active(order, p, now, before) {

@@ -1,5 +1,6 @@
 -- From what the processes of a design use to what wakes them.
-use Rattle.std.proofs.Common.{◌≡◌, ◌∙◌, sym, ap, subst, refl, ℕ, suc, ◌+◌, ◌*◌, ◌<◌, ◌≤◌, ◌^◌, ◌||◌, inl, inr, Bool, true, false, List, [], ◌∷◌, ◌++◌, length, map, arith}
+use Rattle.std.proofs.Common.{◌≡◌, ◌∙◌, sym, ap, subst, refl, ℕ, suc, ◌+◌, ◌*◌, ◌<◌, ◌≤◌, ◌^◌, ◌||◌, inl, inr, Bool}
+use Rattle.std.proofs.Common.{true, false, List, [], ◌∷◌, ◌++◌, length, map, arith}
 use Rattle.std.specs.Prelude.{◌⊎◌, All, Any, Contains, IsTrue, slice_index_or}
 use Rattle.std.specs.List.{list_any}
 use Rattle.std.proofs.lemmas.List.{get_or-map, length-map, get_or_past, get_or_default}
@@ -142,7 +143,8 @@ module _ (d : Design) (order : List ℕ) (us : List Uses) (valid : IsValidDesign
       many_variables = read.as_many;
       many_processes = ap (λ (ts : List (List ℕ)). length ts) named ∙ length-map us named_by ∙ many;
       read = λ k b lt hb r. reader k b lt (named_reads k b ((uses (slice_index_or order k 0) (below k lt)).reads b hb ∙ r));
-      driven = λ p b lt hb dr. subst (λ vs. Contains vs b.var) (sym (targets_at p lt)) (targets_named (slice_index_or us p no_uses) b ((uses p lt).drives b hb ∙ dr));
+      driven = λ p b lt hb dr. subst (λ vs. Contains vs b.var) (sym (targets_at p lt))
+          (targets_named (slice_index_or us p no_uses) b ((uses p lt).drives b hb ∙ dr));
       sources = λ v lt. elim (each v lt) [
         | inl c ↦ inl c
         | inr h ↦ inr (all_driven v h)
@@ -150,7 +152,8 @@ module _ (d : Design) (order : List ℕ) (us : List Uses) (valid : IsValidDesign
       readers_in = λ v j x lt. read.within v (slice_index_or (slice_index_or w.readers v []) j x)
           (j, lt, get_or_default (slice_index_or w.readers v []) j (slice_index_or (slice_index_or w.readers v []) j x) x lt);
       targets_in = λ p. elim (cases_lt p (length d.processes)) [
-        | inl lt ↦ subst (All (λ v. v < length d.vars)) (sym (targets_at p lt)) (All-append (λ v. v < length d.vars) (map (λ (s : Span). s.var) (slice_index_or us p no_uses).sets)
+        | inl lt ↦ subst (All (λ v. v < length d.vars)) (sym (targets_at p lt))
+            (All-append (λ v. v < length d.vars) (map (λ (s : Span). s.var) (slice_index_or us p no_uses).sets)
             (map (λ (s : Span). s.var) (slice_index_or us p no_uses).defers) (all_vars d.vars (slice_index_or us p no_uses).sets (uses p lt).sets_in)
             (all_vars d.vars (slice_index_or us p no_uses).defers (uses p lt).defers_in))
         | inr past ↦ subst (All (λ v. v < length d.vars)) (sym (get_or_past w.targets p []

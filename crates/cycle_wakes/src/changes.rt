@@ -65,10 +65,7 @@ impl Changes {
         ensures end { result ≤ end }
         ensures between { (k : ℕ) → from ≤ k → k < result → is_marked self.now.places k ≡ false }
     {
-        match self.places.next(from) {
-            Some(at) => at.min(end),
-            None => end,
-        }
+        self.places.next_before(from, end)
     }
 
     /// The variables that may differ.

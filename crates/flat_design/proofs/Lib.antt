@@ -9,3 +9,4 @@ pub mod RoomLaws
 pub mod RunWithin
 pub mod UpdateLaws
 pub mod WordLaws
+pub mod Branches

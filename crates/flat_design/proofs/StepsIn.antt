@@ -322,7 +322,8 @@ module _ (s : State) (e : Effects) where
   pub show_room : (pieces : List Piece) → CanRun s e (step.Show pieces ∷ []) → length e.text + length (flat_map (piece_text s) pieces) ≤ e.room.bytes
   show_room pieces h =
       let d : Design = h.design in
-      let room : HasRoom e (room_for d (show_mentions_of pieces)) = subst (λ ms. HasRoom e (room_for d ms)) (show_mentions pieces) (one_room (step.Show pieces) h) in
+      let room : HasRoom e (room_for d (show_mentions_of pieces)) =
+      subst (λ ms. HasRoom e (room_for d ms)) (show_mentions pieces) (one_room (step.Show pieces) h) in
       let ok : list_all (is_piece d) pieces ≡ true = sym (steps.fold-Show Bool (ℕ → Bool) (step_formed d h.counters) (arm_formed d) pieces)
       ∙ one_formed (step.Show pieces) h in
       omega (arith, room.for_bytes, show_fits d s h.of h.variables pieces ok)

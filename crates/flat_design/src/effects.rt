@@ -38,7 +38,14 @@ impl Model for Effects {
 
     ghost Value = { seen.Effects };
 
-    ghost view = { λ e. record { updates = map part_of e.updates.items; text = e.text.items; raised = e.raised.items; finished = e.finished; stopped = e.stopped; room = record { updates = e.update_room; bytes = e.byte_room; counters = e.counter_room } } };
+    ghost view = { λ e. record {
+      updates = map part_of e.updates.items;
+      text = e.text.items;
+      raised = e.raised.items;
+      finished = e.finished;
+      stopped = e.stopped;
+      room = record { updates = e.update_room; bytes = e.byte_room; counters = e.counter_room };
+    } };
 
     ghost invariant = { λ e. (e.update_room ≤ vec_capacity e.updates) × (e.byte_room ≤ vec_capacity e.text) × (e.counter_room ≤ vec_capacity e.raised) };
 }

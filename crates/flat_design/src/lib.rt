@@ -1,6 +1,7 @@
 //! Designs of typed steps, their states, and one run of a process.
 #![tactic(auto)]
 
+mod branch;
 mod effects;
 mod laws;
 mod needs;

@@ -79,7 +79,8 @@ fn piece_needs(piece: &Piece, state: &State) -> usize
 /// The greatest length of what pieces print together.
 fn pieces_need(pieces: &[Piece], state: &State) -> Result<usize, NoMemory>
     requires { ArePiecesIn state.now pieces.now }
-    ensures { IfOk result (λ n. (d : Design) → IsStateOf d state.now → IsTrue (list_all (is_piece d) pieces.now) → n ≡ total (map (piece_length d) pieces.now)) }
+    ensures { IfOk result (λ n. (d : Design) → IsStateOf d state.now → IsTrue (list_all (is_piece d) pieces.now) → n ≡ total
+        (map (piece_length d) pieces.now)) }
 {
     let mut all = 0;
     for piece in pieces {
@@ -92,7 +93,8 @@ fn pieces_need(pieces: &[Piece], state: &State) -> Result<usize, NoMemory>
 #[cycle(needs)]
 fn step_needs(step: &Step, state: &State) -> Result<Needs, NoMemory>
     requires { StepsIn state.now (step.now ∷ []) }
-    ensures { IfOk result (λ n. (d : Design) (k : ℕ) → IsStateOf d state.now → IsTrue (is_step d k step.now) → room_seen n ≡ room_for d (mentions_in step.now)) }
+    ensures { IfOk result (λ n. (d : Design) (k : ℕ) → IsStateOf d state.now → IsTrue (is_step d k step.now) → room_seen n ≡ room_for d
+        (mentions_in step.now)) }
 {
     match step {
         Step::Set { targets, value: _ } => return Ok(updates_need(targets.len())),
@@ -131,7 +133,8 @@ fn step_needs(step: &Step, state: &State) -> Result<Needs, NoMemory>
 #[cycle(needs)]
 fn steps_need(steps: &[Step], state: &State) -> Result<Needs, NoMemory>
     requires { StepsIn state.now steps.now }
-    ensures { IfOk result (λ n. (d : Design) (k : ℕ) → IsStateOf d state.now → IsTrue (list_all (is_step d k) steps.now) → room_seen n ≡ room_for d (flat_map mentions_in steps.now)) }
+    ensures { IfOk result (λ n. (d : Design) (k : ℕ) → IsStateOf d state.now → IsTrue (list_all (is_step d k) steps.now) → room_seen n ≡ room_for d
+        (flat_map mentions_in steps.now)) }
 {
     let mut all = updates_need(0);
     for step in steps {
@@ -145,7 +148,8 @@ fn steps_need(steps: &[Step], state: &State) -> Result<Needs, NoMemory>
 #[cycle(needs)]
 fn arms_need(arms: &[StepArm], state: &State) -> Result<Needs, NoMemory>
     requires { ArmsIn state.now arms.now }
-    ensures { IfOk result (λ n. (d : Design) (k w : ℕ) → IsStateOf d state.now → IsTrue (list_all (arm_at d k w) arms.now) → room_seen n ≡ room_for d (flat_map arm_mentions_in arms.now)) }
+    ensures { IfOk result (λ n. (d : Design) (k w : ℕ) → IsStateOf d state.now → IsTrue (list_all (arm_at d k w) arms.now) → room_seen n ≡ room_for d
+        (flat_map arm_mentions_in arms.now)) }
 {
     let mut all = updates_need(0);
     for arm in arms {

@@ -8,6 +8,7 @@ ghost use Rattle.flat_design.specs.Effects.{added};
 ghost use Rattle.design_state.specs.InDesign.{IsTypedIn};
 ghost use Rattle.flat_design.specs.InDesign.{CanRun, AreItemsIn, AreArmsIn};
 
+use crate::branch::is_zero;
 use crate::effects::Effects;
 use design_state::{State, value};
 use design_tree::{Step, StepArm, StepItem};
@@ -37,7 +38,8 @@ fn matches_any(items: &[StepItem], number: u128, state: &State) -> bool
 fn chosen_arm(arms: &[StepArm], number: u128, state: &State) -> usize
     requires { AreArmsIn state.now arms.now }
     ensures within { result ≤ length arms.now }
-    ensures found { result < length arms.now → (none : StepArm) (rest : List (Act ℕ)) → steps.chosen state.now number (map arm_acts arms.now) rest ≡ map does (slice_index_or arms.now result none).body }
+    ensures found { result < length arms.now → (none : StepArm) (rest : List (Act ℕ))
+        → steps.chosen state.now number (map arm_acts arms.now) rest ≡ map does (slice_index_or arms.now result none).body }
     ensures none { result ≡ length arms.now → (rest : List (Act ℕ)) → steps.chosen state.now number (map arm_acts arms.now) rest ≡ rest }
 {
     for (at, arm) in arms.iter().enumerate() {
@@ -73,7 +75,7 @@ fn run_step(step: &Step, state: &mut State, effects: &mut Effects)
             return;
         }
         Step::If { test, yes, no } => {
-            if value(test, state).bits == 0 {
+            if is_zero(test, state) {
                 run_steps(no.as_slice(), state, effects);
                 return;
             }

@@ -1,12 +1,14 @@
 -- Ones of words, and the places that they mark.
-use Rattle.std.proofs.Common.{◌≡◌, ◌∙◌, sym, ap, ℕ, ◌+◌, ◌-◌, ◌*◌, ◌/◌, ◌%◌, ◌^◌, ◌<◌, ◌≤◌, ◌==◌, ◌||◌, inl, inr, Bool, true, false, List, length, min, bit_and, bit_or}
+use Rattle.std.proofs.Common.{◌≡◌, ◌∙◌, sym, ap, ℕ, ◌+◌, ◌-◌, ◌*◌, ◌/◌, ◌%◌, ◌^◌, ◌<◌, ◌≤◌, ◌==◌, ◌||◌, inl, inr}
+use Rattle.std.proofs.Common.{Bool, true, false, List, length, min, bit_and, bit_or}
 use Rattle.std.proofs.Common.{w64, arith}
 use Rattle.std.specs.Prelude.{slice_index, slice_set}
 use Rattle.std.specs.Int.{bit_at, trailing_zeros}
 use Rattle.std.proofs.lemmas.Bool.{cases_eq, cases_lt, eq-eqb, ne_eqb}
 use Rattle.std.proofs.lemmas.List.{get_or-set_same, get_or-set_other, get_or_past}
 use Rattle.std.proofs.lemmas.Nat.{and_le_l}
-use Rattle.std.proofs.lemmas.Nat.Bits.{bit_at_and, bit_at-lt, bit_at_above, bit_at_mask_inside, bit_at_mask_below, bit_at-trailing_zeros, bit_at_set_same, bit_at_set_other, ones_shl}
+use Rattle.std.proofs.lemmas.Nat.Bits.{bit_at_and, bit_at-lt, bit_at_above, bit_at_mask_inside, bit_at_mask_below, bit_at-trailing_zeros}
+use Rattle.std.proofs.lemmas.Nat.Bits.{bit_at_set_same, bit_at_set_other, ones_shl}
 use Rattle.place_marks.specs.Marked.{IsNext, is_marked, is_one}
 
 -- ---- the ones of a word from a place on
@@ -67,7 +69,8 @@ lowest_left word from few fits some = record {
 
 module _ (marks : List ℕ) (at low : ℕ) (few : low < 64) where
   in_word : (k : ℕ) → at * 64 ≤ k → k < (at + 1) * 64 → is_marked marks k ≡ (bit_at (slice_index marks at) (k - at * 64) == 1)
-  in_word k le lt = ap (λ a. bit_at (slice_index marks a) (k % 64) == 1) (the_word at k le lt) ∙ ap (λ j. bit_at (slice_index marks at) j == 1) (the_place at k le lt)
+  in_word k le lt = ap (λ a. bit_at (slice_index marks a) (k % 64) == 1) (the_word at k le lt) ∙ ap (λ j. bit_at (slice_index marks at) j == 1)
+      (the_place at k le lt)
     where
       the_word : (at k : ℕ) → at * 64 ≤ k → k < (at + 1) * 64 → k / 64 ≡ at
       the_word at k le lt = omega (arith, le, lt)
@@ -102,7 +105,8 @@ pub none_past : (marks : List ℕ) (from at : ℕ) → length marks ≤ at → (
     → (k : ℕ) → from ≤ k → is_marked marks k ≡ false
 none_past marks from at past none k le = elim (cases_lt k (at * 64)) [
   | inl lt ↦ none k le lt
-  | inr more ↦ ap (λ w. bit_at w (k % 64) == 1) (get_or_past marks (k / 64) 0 (omega (arith, past, more))) ∙ ap (λ x. x == 1) (bit_at_above 0 0 (k % 64) (omega arith) (omega arith))
+  | inr more ↦ ap (λ w. bit_at w (k % 64) == 1) (get_or_past marks (k / 64) 0 (omega (arith, past, more))) ∙ ap (λ x. x == 1)
+      (bit_at_above 0 0 (k % 64) (omega arith) (omega arith))
 ]
 
 -- ---- one place more

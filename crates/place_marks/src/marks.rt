@@ -79,4 +79,17 @@ impl PlaceMarks {
         }
         None
     }
+
+    /// The first marked place from one on, and the end where there is none before it.
+    pub fn next_before(&self, from: usize, end: usize) -> usize
+        requires { from ≤ end }
+        ensures from { from ≤ result }
+        ensures end { result ≤ end }
+        ensures between { (k : ℕ) → from ≤ k → k < result → is_marked self.now k ≡ false }
+    {
+        match self.next(from) {
+            Some(at) => at.min(end),
+            None => end,
+        }
+    }
 }

@@ -87,6 +87,7 @@ module _ (m : Machine) (now : State) (effects : Effects) (counts : List ℕ) (li
     follows = λ e. absurd (true≢false (sym (ap (λ n. n == 0) fresh.cycles) ∙ e));
     rooms = sound.rooms;
     wakes = sound.wakes;
+    others = sound.others;
     firsts = sound.firsts;
     changes = sound.changes;
     room = h.room ∙ sound.room;
@@ -134,6 +135,7 @@ marked_sound m changes sound room = record {
   follows = sound.follows;
   rooms = sound.rooms;
   wakes = sound.wakes;
+  others = sound.others;
   firsts = sound.firsts;
   changes = room;
   room = sound.room;
@@ -213,6 +215,7 @@ module _ (m : Machine) (row : List ℕ) (s : State) (kept : List Raised) (mid : 
         (edge_follows m.design.design m.state s row kept (valid_design m sound) sound.can_run.flows h.settled h.raised);
     rooms = h.rooms;
     wakes = sound.wakes;
+    others = sound.others;
     firsts = sound.firsts;
     changes = sound.changes;
     room = e.room ∙ sound.room;

@@ -16,18 +16,21 @@ use Rattle.cycle_parts.specs.Raised.{Raised}
 use Rattle.cycle_parts.specs.Toggles.{AreFirsts}
 use Rattle.cycle_wakes.specs.Changes.{Changes, HasRoom}
 use Rattle.cycle_wakes.specs.Wakes.{Wakes, AreWakesOf}
+use Rattle.cycle_phases.specs.Others.{AreOthers}
 use Rattle.cycle_settle.specs.Settling.{HasRooms, Follows}
 use Rattle.cycle_run.specs.Lines.{Line}
 use Rattle.cycle_run.specs.Ends.{settled_before}
 use Rattle.cycle_run.specs.declared.end.CycleEnd.{CycleEnd}
 
--- The design and the order; what wakes its processes, and the first toggle entry of each variable; the state that registers are read from, the last settled state, and the counters that are kept of
+-- The design and the order; what wakes its processes, which of them are no assignments, and the first toggle entry of each variable;
+-- the state that registers are read from, the last settled state, and the counters that are kept of
 -- each process's last run; what runs leave; the counters, the text of the last call, the number of cycles, how the last call
 -- ended, and whether the run was started.
 pub record Machine : Type 0 where
   pub design : Instrumented
   pub order : OrderOf
   pub wakes : Wakes
+  pub others : List ℕ
   pub firsts : List ℕ
   pub state : State
   pub settled : State
@@ -75,6 +78,7 @@ pub record IsSound (m : Machine) : Type 0 where
   pub follows : (m.cycles == 0) ≡ false → Follows m.design.design m.settled m.state m.kept
   pub rooms : HasRooms m.design.design m.kept
   pub wakes : AreWakesOf m.design.design m.order.processes m.wakes
+  pub others : AreOthers m.design.design m.others
   pub firsts : AreFirsts (length m.design.design.vars) m.design.toggles m.firsts
   pub changes : HasRoom (length m.order.processes) (length m.design.design.vars) m.changes
   pub room : m.effects.room ≡ room_of_all m.design.design

@@ -14,6 +14,7 @@ use cycle_run::{CycleEnd, Line, close_phase, count_settled, settle_row};
 use cycle_wakes::{Changes, Wakes};
 use flat_design::{Effects, Instrumented, State, Steps};
 use flow_order::Order;
+use place_marks::PlaceMarks;
 use std::marker::Model;
 use std::sync::ledger::Ledger;
 use stim_lines::Row;
@@ -27,6 +28,7 @@ pub struct Machine<'a> {
     pub(crate) design: &'a Instrumented,
     pub(crate) order: &'a Order,
     pub(crate) wakes: Wakes,
+    pub(crate) others: PlaceMarks,
     pub(crate) firsts: Vec<usize>,
     pub(crate) state: State,
     pub(crate) settled: State,
@@ -49,7 +51,25 @@ impl<'a> Model for Machine<'a> {
 
     ghost coded = { Prim.hlevel (codes, step.the_row.coded) };
 
-    ghost view = { λ m. record { design = m.design.now; order = m.order.now; wakes = m.wakes; firsts = m.firsts.items; state = m.state; settled = m.settled; kept = m.kept.items; changes = m.changes; effects = m.effects; counts = m.counts.items; line = m.line; cycles = m.cycles; end = m.end; started = m.started } };
+    ghost view = { λ m. record {
+      design = m.design.now;
+      order = m.order.now;
+      wakes = m.wakes;
+      others = m.others;
+      firsts = m.firsts.items;
+      state = m.state;
+      settled = m.settled;
+      kept =
+          m.kept.items;
+      changes = m.changes;
+      effects = m.effects;
+      counts = m.counts.items;
+      line = m.line;
+      cycles = m.cycles;
+      end = m.end;
+      started =
+          m.started;
+    } };
 }
 
 impl<'a> Machine<'a> {
@@ -68,6 +88,7 @@ impl<'a> Machine<'a> {
         self.line.clear();
         let end = close_phase(
             &self.design.design,
+            &self.others,
             Phase::Start,
             &mut self.state,
             &mut self.effects,
@@ -112,6 +133,7 @@ impl<'a> Machine<'a> {
         );
         count_settled(
             self.design,
+            &self.others,
             first,
             self.firsts.as_slice(),
             self.changes.vars(),
@@ -125,6 +147,7 @@ impl<'a> Machine<'a> {
         copy_state(&self.design.design, &self.state, &mut self.settled);
         let end = close_phase(
             &self.design.design,
+            &self.others,
             Phase::Edge,
             &mut self.state,
             &mut self.effects,

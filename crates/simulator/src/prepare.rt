@@ -8,6 +8,7 @@ ghost use Rattle.simulator.specs.Machines.{CanRun, IsSound};
 use crate::machine::Machine;
 use cov_types::NoMemory;
 use cycle_parts::{OUTPUT_COLUMNS, Raised, first_entries};
+use cycle_phases::mark_others;
 use cycle_run::{CycleEnd, Line};
 use cycle_start::start_state;
 use cycle_wakes::{Changes, Wakes};
@@ -67,6 +68,7 @@ impl<'a> Machine<'a> {
         let places = order.processes();
         let vars = design.design.vars.as_slice();
         let wakes = Wakes::new(alloc, &design.design, places)?;
+        let others = mark_others(alloc, &design.design)?;
         let changes = Changes::new(alloc, places.len(), vars.len())?;
         let firsts = first_entries(alloc, design)?;
         let effects = Effects::reserve(alloc, design)?;
@@ -77,6 +79,7 @@ impl<'a> Machine<'a> {
             design,
             order,
             wakes,
+            others,
             firsts,
             state,
             settled,

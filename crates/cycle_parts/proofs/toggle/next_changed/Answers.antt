@@ -21,7 +21,8 @@ returns-else-next-firsts-clause-unchanged c k le lt =
     let at = c.args.at in
     let is = subst (λ (es : List ToggleEntry). IsNext marks (entry_at es at).var next) c.as_slice-entries.ensures c.in-Some.ensures.found in
     unmarked_to_end c.args.x.now c.requires.toggles c.args.firsts.now marks c.requires.firsts at c.requires.here next is
-    (omega (arith, c.if-next-firsts.false, c.requires.firsts.as_many)) k le (omega (arith, lt, ap (λ (es : List ToggleEntry). length es) c.as_slice-entries.ensures))
+    (omega (arith, c.if-next-firsts.false, c.requires.firsts.as_many)) k le
+    (omega (arith, lt, ap (λ (es : List ToggleEntry). length es) c.as_slice-entries.ensures))
 
 pub returns-in-None-clause-unchanged : goal.returns-in-None-clause-unchanged
 returns-in-None-clause-unchanged c k le lt =

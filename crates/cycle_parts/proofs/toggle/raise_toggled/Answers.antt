@@ -4,8 +4,8 @@ use Rattle.std.proofs.lemmas.List.{take_all}
 use Rattle.circuit_run.specs.States.{held}
 use Rattle.design_tree.specs.declared.instrumented.ToggleEntry.{ToggleEntry}
 use Rattle.design_meaning.specs.Counters.{HasCounted, toggled}
-use Rattle.cycle_parts.specs.Toggles.{differing, entry_at}
-use Rattle.cycle_parts.proofs.Firsts.{passed_unmarked, places_fit}
+use Rattle.cycle_parts.specs.Toggles.{DoBitsAscend, differing, entry_at}
+use Rattle.cycle_parts.proofs.Firsts.{bits_ascend, passed_unmarked, places_fit}
 use Rattle.cycle_parts.proofs.ToggleLaws.{room_for_word, word_counted}
 use Rattle.cycle_parts.proofs.toggle.raise_toggled.Goals as goal
 
@@ -19,6 +19,14 @@ returns-then-from-entries c =
     (passed_unmarked x c.requires.variables c.requires.toggles c.args.before.now c.args.now.now c.args.changed.now c.requires.unchanged c.words.at from
     c.args.counts.now c.words.counts c.next_changed-from.ensures.from c.next_changed-from.ensures.within c.next_changed-from.ensures.unchanged
     c.words.invariant.counted)
+
+pub raise_word-requires-clause-ascending : goal.raise_word-requires-clause-ascending
+raise_word-requires-clause-ascending c =
+    let x = c.args.x.now in
+    let i = c.next_changed-from.result in
+    let j = c.word_end-end.result in
+    subst (λ (es : List ToggleEntry). DoBitsAscend (slice_range es i j)) (sym c.words.invariant.same)
+    (bits_ascend x c.requires.toggles i j (omega (arith, c.word_end-end.ensures.more)) c.word_end-end.ensures.within c.word_end-end.ensures.same)
 
 pub raise_word-requires-clause-places : goal.raise_word-requires-clause-places
 raise_word-requires-clause-places c =
@@ -53,7 +61,8 @@ words-preserved c =
           (subst (λ es. was ≡ slice_index (held s (entry_at es i).var).words (entry_at es i).word) c.words.invariant.same c.read-was.ensures.value)
           (subst (λ es. is ≡ slice_index (held t (entry_at es i).var).words (entry_at es i).word) c.words.invariant.same c.read-is.ensures.value)
           c.word_end-end.ensures.same
-          (passed_unmarked c.args.x.now c.requires.variables c.requires.toggles c.args.before.now c.args.now.now c.args.changed.now c.requires.unchanged c.words.at i
+          (passed_unmarked c.args.x.now c.requires.variables c.requires.toggles c.args.before.now c.args.now.now c.args.changed.now c.requires.unchanged
+          c.words.at i
           c.args.counts.now c.words.counts c.next_changed-from.ensures.from c.next_changed-from.ensures.within c.next_changed-from.ensures.unchanged
           c.words.invariant.counted)
           (subst (λ es. HasCounted c.words.counts (differing was is (slice_range es i j)) c.raise_word.new.counts) c.words.invariant.same c.raise_word.ensures);

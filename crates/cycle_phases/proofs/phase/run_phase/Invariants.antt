@@ -1,10 +1,13 @@
-use Rattle.std.proofs.Common.{◌≡◌}
+use Rattle.std.proofs.Common.{◌≡◌, ◌-◌, ◌≤◌, length}
 use Rattle.cycle_phases.specs.Phases.{runs_in}
 use Rattle.cycle_phases.proofs.Turning.{Turning}
 use Rattle.cycle_phases.proofs.phase.run_phase.Given as goal
 
-abbrev pub invariant-loop-at : goal.invariant-loop-at
-invariant-loop-at g l = record {
+abbrev pub invariant-process : goal.invariant-process
+invariant-process g l = record {
   turning : Turning (runs_in l.phase) l.design l.fn.now l.at l.now l.effects l.fn.steps l.steps;
-  same : l.process-items ≡ l.design.processes;
+  within : l.at ≤ length l.design.processes;
 }
+
+abbrev pub decreases-process : goal.decreases-process
+decreases-process g l = length l.design.processes - l.at

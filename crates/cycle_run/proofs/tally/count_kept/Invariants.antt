@@ -1,9 +1,12 @@
-use Rattle.std.proofs.Common.{◌≡◌}
+use Rattle.std.proofs.Common.{◌≡◌, ◌-◌, ◌≤◌, length}
 use Rattle.cycle_run.proofs.TallyLaws.{Counted}
 use Rattle.cycle_run.proofs.tally.count_kept.Given as goal
 
-abbrev pub invariant-loop-at : goal.invariant-loop-at
-invariant-loop-at l = record {
+abbrev pub invariant-process : goal.invariant-process
+invariant-process l = record {
   counted : Counted l.design l.kept l.at l.fn.counts l.counts;
-  same : l.process-items ≡ l.design.processes;
+  within : l.at ≤ length l.design.processes;
 }
+
+abbrev pub decreases-process : goal.decreases-process
+decreases-process l = length l.design.processes - l.at

@@ -23,7 +23,8 @@ keep-requires g c =
     let run = run_of (process_of d p) c.args.now.now in
     let raised : c.raised.result.now ≡ run.notes =
     c.raised.ensures ∙ ap (λ e. e.raised) (c.run_process.ensures.effects ∙ ap (λ e. added e run) c.clear.ensures) in
-    let few : length run.notes ≤ (room_of d (process_of d p)).counters = (runs_within d p c.args.now.now c.requires.valid c.requires.of_design c.requires.process).counters in
+    let few : length run.notes ≤ (room_of d (process_of d p)).counters =
+    (runs_within d p c.args.now.now c.requires.valid c.requires.of_design c.requires.process).counters in
     let here : p < length kept = omega (arith, c.requires.process, c.requires.rooms.as_many) in
     let room : (slice_index_or kept p x).room ≡ (room_of d (process_of d p)).counters =
     ap (λ k. k.room) (get_or_default kept p x (none_raised 0) here) ∙ c.requires.rooms.rooms p c.requires.process in

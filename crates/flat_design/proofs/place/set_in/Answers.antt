@@ -11,7 +11,9 @@ pub returns-then-targets-eq1-clause-state : goal.returns-then-targets-eq1-clause
 returns-then-targets-eq1-clause-state c =
     let s = c.args.state.now in
     let v = c.args.value in
-    let k = one_target s c.args.targets.now c.index-targets-0.result v.width v.bits c.if-targets-eq1.true c.index-targets-0.is c.requires.targets c.requires.widths v.fits in
+    let k =
+    one_target s c.args.targets.now c.index-targets-0.result v.width v.bits c.if-targets-eq1.true c.index-targets-0.is c.requires.targets
+    c.requires.widths v.fits in
     c.write_one.ensures ∙ ap (all_written s) (sym k.2)
 
 pub write_updates-requires : goal.write_updates-requires

@@ -7,7 +7,8 @@ use Rattle.flat_design.proofs.place.write_updates.Goals as goal
 pub write_part-requires : goal.write_part-requires
 write_part-requires c =
     let u = c.update-item.result in
-    let here : (slice_index_or c.args.updates.now c.loop-update.update-index u).var < length c.args.state.now = c.requires c.loop-update.update-index u c.loop-update-test.true in
+    let here : (slice_index_or c.args.updates.now c.loop-update.update-index u).var < length c.args.state.now =
+    c.requires c.loop-update.update-index u c.loop-update-test.true in
     subst (λ n. u.var < n) (sym c.loop-update.invariant.same_length) (subst (λ x. x.var < length c.args.state.now) (sym c.update-item.is) here)
 
 pub loop-update-preserved : goal.loop-update-preserved

@@ -67,7 +67,7 @@ run_step-later-requires-clause-room t c =
 pub run_step-run_steps-requires : goal.run_step-run_steps-requires
 run_step-run_steps-requires t c = (
   first_of (search (rules, the_lemmas), grind (arith, the_lemmas)),
-  subst (CanRun c.args.state.now c.args.effects.now) (sym c.as_slice-then-value-eq0.ensures)
+  subst (CanRun c.args.state.now c.args.effects.now) (sym c.as_slice-then-is_zero.ensures)
       (inside.if_right c.args.state.now c.args.effects.now c.in-If.test c.in-If.yes c.in-If.no (rw c.in-If.is at c.requires)),
 )
 

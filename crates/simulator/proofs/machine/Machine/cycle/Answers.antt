@@ -14,7 +14,8 @@ use Rattle.cycle_run.specs.Lines.{Line}
 use Rattle.cycle_run.specs.Tally.{CanRaise}
 use Rattle.flat_design.specs.Effects.{room_of_all}
 use Rattle.simulator.specs.Machines.{IsSound, Machine, between}
-use Rattle.simulator.proofs.Parts.{IsClosed, IsSettledCount, cycle_runs, cycle_sound, cycled, edge_fits, marked, marked_closed, marked_count, marked_sound, row_counted}
+use Rattle.simulator.proofs.Parts.{IsClosed, IsSettledCount, cycle_runs, cycle_sound, cycled, edge_fits, marked}
+use Rattle.simulator.proofs.Parts.{marked_closed, marked_count, marked_sound, row_counted}
 use Rattle.simulator.proofs.machine.Machine.cycle.Given as given
 use Rattle.simulator.proofs.machine.Machine.cycle.Goals as goal
 
@@ -24,6 +25,7 @@ old g c = record {
   design = c.self.inside.design.now;
   order = c.self.inside.order.now;
   wakes = c.self.inside.wakes;
+  others = c.self.inside.others;
   firsts = c.self.inside.firsts.items;
   state = c.self.inside.state;
   settled = c.self.inside.settled;

@@ -30,6 +30,7 @@ returns-clause-sound c =
       follows = λ e. absurd (true≢false e);
       rooms = c.in_ok-kept.ensures;
       wakes = subst (λ (order : List ℕ). AreWakesOf d order c.in_ok-wakes.wakes) c.processes-places.ensures c.in_ok-wakes.ensures;
+      others = c.in_ok-others.ensures;
       firsts = c.in_ok-firsts.ensures;
       changes = record {
         places = omega (arith, c.in_ok-changes.ensures.places, ap (λ (l : List ℕ). length l) c.processes-places.ensures);

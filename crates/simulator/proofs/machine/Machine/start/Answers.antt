@@ -18,6 +18,7 @@ old g c = record {
   design = c.self.inside.design.now;
   order = c.self.inside.order.now;
   wakes = c.self.inside.wakes;
+  others = c.self.inside.others;
   firsts = c.self.inside.firsts.items;
   state = c.self.inside.state;
   settled = c.self.inside.settled;
