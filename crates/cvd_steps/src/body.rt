@@ -3,7 +3,8 @@
 ghost use Rattle.std.specs.Prelude.{◌≡◌, ◌≤◌, ◌^◌, ◌*◌, ◌+◌, All, ℕ, length, true};
 ghost use Rattle.cvd_cursor.specs.Reads.{Reads};
 ghost use Rattle.cvd_step_laws.proofs.StepParts.{made_step};
-ghost use Rattle.cvd_step_laws.specs.StepMarks.{arm_marks, arms_marks, behind_arms, block_marks, chosen_marks, step_marks, step_parts, steps_marks, tested_marks, within};
+ghost use Rattle.cvd_step_laws.specs.StepMarks.{arm_marks, arms_marks, behind_arms, block_marks, chosen_marks, step_marks};
+ghost use Rattle.cvd_step_laws.specs.StepMarks.{step_parts, steps_marks, tested_marks, within};
 ghost use Rattle.cvd_steps.specs.Bodies.{AreArms, IsArm, IsBody, IsStep, around_of, body_marks, load_of};
 ghost use Rattle.cvd_steps.specs.Words.{head_of};
 ghost use Rattle.cvd_targets.specs.Lists.{AreTurns};
@@ -20,11 +21,11 @@ use crate::place::{may_go, may_test};
 use crate::plain::{count, finish, later, set, show, stop};
 use crate::process::Process;
 use crate::sums::Sums;
-use crate::word::{StepWord, at_end, read_word};
+use crate::word::{StepWord, at_end, first_turns, read_word};
 use cov_types::Var;
 use cvd_cursor::{Cursor, ReadFault};
+use cvd_targets::items_for;
 use design_tree::{Step, StepArm};
-use sqlite_items::Items;
 use std::alloc::Global;
 
 /// The block of a process, behind lines that add up to this: `begin`, its steps, `end`.
@@ -38,7 +39,8 @@ pub fn read_body(
     requires few { length vars.now ≤ 2 ^ 32 }
     requires variables { All IsVariable vars.now }
     requires sums { is_within (load_of sums) ≡ true }
-    ensures { Reads (body_marks (around_of vars.now process) (load_of sums)) (IsBody (around_of vars.now process) (load_of sums) 1) cursor.old result cursor.new }
+    ensures { Reads (body_marks (around_of vars.now process) (load_of sums)) (IsBody (around_of vars.now process) (load_of sums) 1) cursor.old result
+        cursor.new }
 {
     block(alloc, cursor, vars, process, 1, sums)
 }
@@ -57,7 +59,8 @@ fn block(
     requires variables { All IsVariable vars.now }
     requires sums { is_within (load_of sums) ≡ true }
     requires deep { deep ≤ 701 }
-    ensures { Reads (block_marks (around_of vars.now process) (load_of sums) deep) (IsBody (around_of vars.now process) (load_of sums) deep) cursor.old result cursor.new }
+    ensures { Reads (block_marks (around_of vars.now process) (load_of sums) deep) (IsBody (around_of vars.now process) (load_of sums) deep) cursor.old result
+        cursor.new }
 {
     begin(cursor, deep, sums)?;
     let body = all_steps(alloc, cursor, vars, process, deep, sums)?;
@@ -78,9 +81,10 @@ fn all_steps(
     requires variables { All IsVariable vars.now }
     requires sums { is_within (load_of sums) ≡ true }
     requires deep { deep ≤ 700 }
-    ensures { Reads (steps_marks (around_of vars.now process) deep (within (load_of sums) 0)) (IsBody (around_of vars.now process) (load_of sums) deep) cursor.old result cursor.new }
+    ensures { Reads (steps_marks (around_of vars.now process) deep (within (load_of sums) 0)) (IsBody (around_of vars.now process) (load_of sums) deep)
+        cursor.old result cursor.new }
 {
-    let mut steps = Items::new(alloc);
+    let mut steps = items_for(alloc, first_turns(cursor))?;
     let mut sums = sums;
     'turns: while !at_end(cursor) {
         let place = Place {
@@ -109,7 +113,8 @@ fn step(
     requires variables { All IsVariable vars.now }
     requires sums { is_within (load_of sums) ≡ true }
     requires deep { place.deep ≤ 700 }
-    ensures { let at = spot place.deep place.before in Reads (step_marks (around_of vars.now process) (load_of sums) at) (IsStep (around_of vars.now process) (load_of sums) at) cursor.old result cursor.new }
+    ensures { let at = spot place.deep place.before in Reads (step_marks (around_of vars.now process) (load_of sums) at)
+        (IsStep (around_of vars.now process) (load_of sums) at) cursor.old result cursor.new }
 {
     let word = read_word(cursor)?;
     let held = parts(alloc, cursor, vars, process, place, sums, word)?;
@@ -131,7 +136,8 @@ fn parts(
     requires variables { All IsVariable vars.now }
     requires sums { is_within (load_of sums) ≡ true }
     requires deep { place.deep ≤ 700 }
-    ensures { let at = spot place.deep place.before in let around = around_of vars.now process in Reads (step_parts around (load_of sums) at (head_of word)) (λ p held. IsStep around (load_of sums) at (made_step (head_of word, p)) held) cursor.old result cursor.new }
+    ensures { let at = spot place.deep place.before in let around = around_of vars.now process in Reads (step_parts around (load_of sums) at (head_of word))
+        (λ p held. IsStep around (load_of sums) at (made_step (head_of word, p)) held) cursor.old result cursor.new }
 {
     match word {
         StepWord::Set => set(alloc, cursor, vars, process, place, sums),
@@ -159,7 +165,8 @@ fn tested(
     requires variables { All IsVariable vars.now }
     requires sums { is_within (load_of sums) ≡ true }
     requires deep { place.deep ≤ 700 }
-    ensures { let at = spot place.deep place.before in let around = around_of vars.now process in Reads (tested_marks around (load_of sums) at) (λ p held. IsStep around (load_of sums) at (steps.If p.0 p.1.1.0 p.1.1.1) held) cursor.old result cursor.new }
+    ensures { let at = spot place.deep place.before in let around = around_of vars.now process in Reads (tested_marks around (load_of sums) at)
+        (λ p held. IsStep around (load_of sums) at (steps.If p.0 p.1.1.0 p.1.1.1) held) cursor.old result cursor.new }
 {
     let allowed = may_test(process.kind, place.deep, place.before);
     let first = test_line(alloc, cursor, vars, process, allowed, sums)?;
@@ -188,7 +195,8 @@ fn chosen(
     requires variables { All IsVariable vars.now }
     requires sums { is_within (load_of sums) ≡ true }
     requires deep { place.deep ≤ 700 }
-    ensures { let at = spot place.deep place.before in let around = around_of vars.now process in Reads (chosen_marks around (load_of sums) at) (λ p held. IsStep around (load_of sums) at (steps.Case p.1.0 p.1.1.1.0.items p.1.1.1.1) held) cursor.old result cursor.new }
+    ensures { let at = spot place.deep place.before in let around = around_of vars.now process in Reads (chosen_marks around (load_of sums) at)
+        (λ p held. IsStep around (load_of sums) at (steps.Case p.1.0 p.1.1.1.0.items p.1.1.1.1) held) cursor.old result cursor.new }
 {
     let allowed = may_go(process.kind, place.deep, place.before);
     let first = case_line(alloc, cursor, vars, process, allowed, sums)?;
@@ -223,9 +231,12 @@ fn all_arms(
     requires sums { is_within (load_of sums) ≡ true }
     requires deep { each.deep ≤ 700 }
     requires narrow { each.width ≤ 128 }
-    ensures { (n bytes : ℕ) → AreTurns bytes n each.turns → length cursor.old.rest ≤ 2 * bytes + 1 → Reads (arms_marks (around_of vars.now process) each.width each.deep (load_of sums) n) (λ m held. AreArms (behind_arms (around_of vars.now process) each.width each.deep (load_of sums) m.items) m.items held) cursor.old result cursor.new }
+    ensures { (n bytes : ℕ) → AreTurns bytes n each.turns → length cursor.old.rest ≤ 2 * bytes + 1
+        → Reads (arms_marks (around_of vars.now process) each.width each.deep (load_of sums) n)
+        (λ m held. AreArms (behind_arms (around_of vars.now process) each.width each.deep (load_of sums) m.items) m.items held) cursor.old result
+        cursor.new }
 {
-    let mut arms = Items::new(alloc);
+    let mut arms = items_for(alloc, each.turns)?;
     let mut sums = sums;
     let mut left = each.turns;
     while left > 0 {
@@ -252,7 +263,8 @@ fn arm(
     requires sums { is_within (load_of sums) ≡ true }
     requires deep { each.deep ≤ 700 }
     requires narrow { each.width ≤ 128 }
-    ensures { Reads (arm_marks (around_of vars.now process) each.width each.deep (load_of sums)) (IsArm (around_of vars.now process) each.width each.deep (load_of sums)) cursor.old result cursor.new }
+    ensures { Reads (arm_marks (around_of vars.now process) each.width each.deep (load_of sums))
+        (IsArm (around_of vars.now process) each.width each.deep (load_of sums)) cursor.old result cursor.new }
 {
     let turns = arm_line(cursor, sums)?;
     let held = read_items(alloc, cursor, vars, process, each.width, turns, sums)?;

@@ -46,7 +46,8 @@ pub(crate) fn end(
     sums: Sums,
 ) -> Result<(), ReadFault>
     requires { is_within (load_of sums) ≡ true }
-    ensures { (around : Around) → around.kind ≡ kind → Reads (λ (u : Unit {0}). block_end around deep (within (load_of sums) count)) (λ u held. Unit {0}) cursor.old result cursor.new }
+    ensures { (around : Around) → around.kind ≡ kind
+        → Reads (λ (u : Unit {0}). block_end around deep (within (load_of sums) count)) (λ u held. Unit {0}) cursor.old result cursor.new }
 {
     expect(cursor, b"end")?;
     let stands = may_end(kind, deep, count);
@@ -57,7 +58,8 @@ pub(crate) fn end(
 /// The line `arm`, and how often an item has to be read.
 pub(crate) fn arm_line(cursor: &mut Cursor<'_>, sums: Sums) -> Result<u128, ReadFault>
     requires { is_within (load_of sums) ≡ true }
-    ensures { Reads (arm_line_marks (load_of sums)) (λ p held. (bytes : ℕ) × ((length cursor.new.rest ≤ 2 * bytes + 1) × AreTurns bytes p.1.0 held)) cursor.old result cursor.new }
+    ensures { Reads (arm_line_marks (load_of sums)) (λ p held. (bytes : ℕ) × ((length cursor.new.rest ≤ 2 * bytes + 1) × AreTurns bytes p.1.0 held)) cursor.old
+        result cursor.new }
 {
     expect(cursor, b"arm")?;
     let count = number(cursor)?;

@@ -12,6 +12,7 @@ use crate::sums::{Own, Sums, both, close, refuse};
 use cov_types::{Rows, Var};
 use cvd_cursor::{Cursor, ReadFault, expect, hex};
 use cvd_expressions::{Expression, read_expression};
+use cvd_targets::rows_for;
 use design_tree::StepItem;
 use std::alloc::Global;
 
@@ -42,9 +43,11 @@ pub(crate) fn read_items(
     requires few { length vars.now ≤ 2 ^ 32 }
     requires narrow { width ≤ 128 }
     requires sums { is_within (load_of sums) ≡ true }
-    ensures { (n bytes : ℕ) → AreTurns bytes n turns → length cursor.old.rest ≤ 2 * bytes + 1 → Reads (items_marks (around_of vars.now process) width (load_of sums) n) (λ m held. AreItems (behind_items (around_of vars.now process) width (load_of sums) m.items) m.items held) cursor.old result cursor.new }
+    ensures { (n bytes : ℕ) → AreTurns bytes n turns → length cursor.old.rest ≤ 2 * bytes + 1
+        → Reads (items_marks (around_of vars.now process) width (load_of sums) n)
+        (λ m held. AreItems (behind_items (around_of vars.now process) width (load_of sums) m.items) m.items held) cursor.old result cursor.new }
 {
-    let mut items = Rows::new(alloc);
+    let mut items = rows_for(alloc, turns)?;
     let mut sums = sums;
     let mut left = turns;
     while left > 0 {
@@ -67,7 +70,8 @@ fn read_item(
 ) -> Result<ReadItem, ReadFault>
     requires few { length vars.now ≤ 2 ^ 32 }
     requires narrow { width ≤ 128 }
-    ensures { Reads (item_marks (around_of vars.now process) width (load_of sums)) (IsItem (around_of vars.now process) width (load_of sums)) cursor.old result cursor.new }
+    ensures { Reads (item_marks (around_of vars.now process) width (load_of sums)) (IsItem (around_of vars.now process) width (load_of sums)) cursor.old result
+        cursor.new }
 {
     expect(cursor, b"item")?;
     let mask = hex(cursor)?;

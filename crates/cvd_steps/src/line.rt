@@ -38,7 +38,9 @@ pub(crate) fn assigned_line(
     sums: Sums,
 ) -> Result<AssignedLine, ReadFault>
     requires { length vars.now ≤ 2 ^ 32 }
-    ensures { (at : Spot) (sort : Sort) (name : List ℕ) → allowed ≡ may_stand process.kind at sort → Reads (assigned_marks (around_of vars.now process) (load_of sums) at sort name) (λ p held. IsAssignedLine (around_of vars.now process) (load_of sums) at sort name p.1.0.items p.1.1.0 held) cursor.old result cursor.new }
+    ensures { (at : Spot) (sort : Sort) (name : List ℕ) → allowed ≡ may_stand process.kind at sort
+        → Reads (assigned_marks (around_of vars.now process) (load_of sums) at sort name)
+        (λ p held. IsAssignedLine (around_of vars.now process) (load_of sums) at sort name p.1.0.items p.1.1.0 held) cursor.old result cursor.new }
 {
     let Some(held) = read_assigned(alloc, cursor, vars, process.kind)? else {
         return Err(refuse(cursor));
@@ -78,7 +80,9 @@ pub(crate) fn test_line(
     sums: Sums,
 ) -> Result<TestLine, ReadFault>
     requires { length vars.now ≤ 2 ^ 32 }
-    ensures { (at : Spot) → allowed ≡ may_stand process.kind at tests → Reads (test_marks (around_of vars.now process) (load_of sums) at) (λ p held. IsTestLine (around_of vars.now process) (load_of sums) at p.0 held) cursor.old result cursor.new }
+    ensures { (at : Spot) → allowed ≡ may_stand process.kind at tests
+        → Reads (test_marks (around_of vars.now process) (load_of sums) at)
+        (λ p held. IsTestLine (around_of vars.now process) (load_of sums) at p.0 held) cursor.old result cursor.new }
 {
     let Some(held) = read_expression(alloc, cursor, vars)? else {
         return Err(refuse(cursor));
@@ -114,7 +118,10 @@ pub(crate) fn case_line(
 ) -> Result<CaseLine, ReadFault>
     requires few { length vars.now ≤ 2 ^ 32 }
     requires variables { All IsVariable vars.now }
-    ensures reads { (at : Spot) → allowed ≡ may_stand process.kind at other → Reads (case_marks (around_of vars.now process) (load_of sums) at) (λ p held. (bytes : ℕ) × ((length cursor.new.rest ≤ 2 * bytes + 1) × IsCaseLine (around_of vars.now process) (load_of sums) at p.0 p.1.0 bytes held)) cursor.old result cursor.new }
+    ensures reads { (at : Spot) → allowed ≡ may_stand process.kind at other
+        → Reads (case_marks (around_of vars.now process) (load_of sums) at)
+        (λ p held. (bytes : ℕ) × ((length cursor.new.rest ≤ 2 * bytes + 1) × IsCaseLine (around_of vars.now process) (load_of sums) at p.0 p.1.0
+        bytes held)) cursor.old result cursor.new }
     ensures narrow { IfOk result (λ held. held.width ≤ 128) }
 {
     let count = number(cursor)?;
@@ -158,7 +165,9 @@ pub(crate) fn show_line(
 ) -> Result<ShowLine, ReadFault>
     requires few { length vars.now ≤ 2 ^ 32 }
     requires variables { All IsVariable vars.now }
-    ensures { (at : Spot) → allowed ≡ may_stand process.kind at speaks → Reads (shown_marks (around_of vars.now process) (load_of sums) at) (λ p held. IsShowLine (around_of vars.now process) (load_of sums) at p.1.0.items held) cursor.old result cursor.new }
+    ensures { (at : Spot) → allowed ≡ may_stand process.kind at speaks
+        → Reads (shown_marks (around_of vars.now process) (load_of sums) at)
+        (λ p held. IsShowLine (around_of vars.now process) (load_of sums) at p.1.0.items held) cursor.old result cursor.new }
 {
     let Some(held) = read_pieces(alloc, cursor, vars)? else {
         return Err(refuse(cursor));
@@ -182,7 +191,9 @@ pub(crate) fn show_line(
 
 /// The end of a line of `finish` or `stop`, which may stand or not.
 pub(crate) fn ending(cursor: &mut Cursor<'_>, allowed: bool, sums: Sums) -> Result<Sums, ReadFault>
-    ensures { (around : Around) (at : Spot) (name : List ℕ) → allowed ≡ may_stand around.kind at speaks → Reads (line_marks (stands (load_of sums) (ending_line around at name))) (λ u held. AreSums (added (load_of sums) (ending_line around at name).load) held) cursor.old result cursor.new }
+    ensures { (around : Around) (at : Spot) (name : List ℕ) → allowed ≡ may_stand around.kind at speaks
+        → Reads (line_marks (stands (load_of sums) (ending_line around at name)))
+        (λ u held. AreSums (added (load_of sums) (ending_line around at name).load) held) cursor.old result cursor.new }
 {
     let own = Own {
         steps: 1,
@@ -206,7 +217,8 @@ pub(crate) fn count_line(
     allowed: bool,
     sums: Sums,
 ) -> Result<CountLine, ReadFault>
-    ensures { (around : Around) (at : Spot) → around.counters ≡ process.counters → allowed ≡ may_stand around.kind at counts → Reads (counted_marks around (load_of sums) at) (λ p held. IsCountLine around (load_of sums) at p.0 held) cursor.old result cursor.new }
+    ensures { (around : Around) (at : Spot) → around.counters ≡ process.counters → allowed ≡ may_stand around.kind at counts
+        → Reads (counted_marks around (load_of sums) at) (λ p held. IsCountLine around (load_of sums) at p.0 held) cursor.old result cursor.new }
 {
     let Some(counter) = number32(cursor)? else {
         return Err(refuse(cursor));

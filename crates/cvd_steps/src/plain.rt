@@ -31,7 +31,9 @@ pub(crate) fn set(
     sums: Sums,
 ) -> Result<ReadStep, ReadFault>
     requires { length vars.now ≤ 2 ^ 32 }
-    ensures { let at = spot place.deep place.before in let around = around_of vars.now process in Reads (assigned_marks around (load_of sums) at sets (codes "set")) (λ p held. IsStep around (load_of sums) at (steps.Set p.1.0.items p.1.1.0) held) cursor.old result cursor.new }
+    ensures { let at = spot place.deep place.before in let around = around_of vars.now process in Reads
+        (assigned_marks around (load_of sums) at sets (codes "set")) (λ p held. IsStep around (load_of sums) at (steps.Set p.1.0.items p.1.1.0) held)
+        cursor.old result cursor.new }
 {
     let allowed = may_set(process.kind, place.deep, place.before);
     let line = assigned_line(alloc, cursor, vars, process, allowed, sums)?;
@@ -57,7 +59,9 @@ pub(crate) fn later(
     sums: Sums,
 ) -> Result<ReadStep, ReadFault>
     requires { length vars.now ≤ 2 ^ 32 }
-    ensures { let at = spot place.deep place.before in let around = around_of vars.now process in Reads (assigned_marks around (load_of sums) at other (codes "later")) (λ p held. IsStep around (load_of sums) at (steps.Later p.1.0.items p.1.1.0) held) cursor.old result cursor.new }
+    ensures { let at = spot place.deep place.before in let around = around_of vars.now process in Reads
+        (assigned_marks around (load_of sums) at other (codes "later"))
+        (λ p held. IsStep around (load_of sums) at (steps.Later p.1.0.items p.1.1.0) held) cursor.old result cursor.new }
 {
     let allowed = may_go(process.kind, place.deep, place.before);
     let line = assigned_line(alloc, cursor, vars, process, allowed, sums)?;
@@ -84,7 +88,8 @@ pub(crate) fn show(
 ) -> Result<ReadStep, ReadFault>
     requires few { length vars.now ≤ 2 ^ 32 }
     requires variables { All IsVariable vars.now }
-    ensures { let at = spot place.deep place.before in let around = around_of vars.now process in Reads (shown_marks around (load_of sums) at) (λ p held. IsStep around (load_of sums) at (steps.Show p.1.0.items) held) cursor.old result cursor.new }
+    ensures { let at = spot place.deep place.before in let around = around_of vars.now process in Reads (shown_marks around (load_of sums) at)
+        (λ p held. IsStep around (load_of sums) at (steps.Show p.1.0.items) held) cursor.old result cursor.new }
 {
     let allowed = may_speak(process.kind, place.deep, place.before);
     let line = show_line(alloc, cursor, vars, process, allowed, sums)?;
@@ -101,7 +106,9 @@ pub(crate) fn finish(
     place: Place,
     sums: Sums,
 ) -> Result<ReadStep, ReadFault>
-    ensures { let around = around_of vars.now process in let at = spot place.deep place.before in Reads (line_marks (stands (load_of sums) (ending_line around at (codes "finish")))) (λ p held. IsStep around (load_of sums) at steps.Finish held) cursor.old result cursor.new }
+    ensures { let around = around_of vars.now process in let at = spot place.deep place.before in Reads
+        (line_marks (stands (load_of sums) (ending_line around at (codes "finish")))) (λ p held. IsStep around (load_of sums) at steps.Finish held)
+        cursor.old result cursor.new }
 {
     let allowed = may_speak(process.kind, place.deep, place.before);
     let sums = ending(cursor, allowed, sums)?;
@@ -117,7 +124,9 @@ pub(crate) fn stop(
     place: Place,
     sums: Sums,
 ) -> Result<ReadStep, ReadFault>
-    ensures { let around = around_of vars.now process in let at = spot place.deep place.before in Reads (line_marks (stands (load_of sums) (ending_line around at (codes "stop")))) (λ p held. IsStep around (load_of sums) at steps.Stop held) cursor.old result cursor.new }
+    ensures { let around = around_of vars.now process in let at = spot place.deep place.before in Reads
+        (line_marks (stands (load_of sums) (ending_line around at (codes "stop")))) (λ p held. IsStep around (load_of sums) at steps.Stop held)
+        cursor.old result cursor.new }
 {
     let allowed = may_speak(process.kind, place.deep, place.before);
     let sums = ending(cursor, allowed, sums)?;
@@ -133,7 +142,8 @@ pub(crate) fn count(
     place: Place,
     sums: Sums,
 ) -> Result<ReadStep, ReadFault>
-    ensures { let around = around_of vars.now process in let at = spot place.deep place.before in Reads (counted_marks around (load_of sums) at) (λ p held. IsStep around (load_of sums) at (steps.Count p.0) held) cursor.old result cursor.new }
+    ensures { let around = around_of vars.now process in let at = spot place.deep place.before in Reads (counted_marks around (load_of sums) at)
+        (λ p held. IsStep around (load_of sums) at (steps.Count p.0) held) cursor.old result cursor.new }
 {
     let allowed = may_count(process.kind, place.deep, place.before);
     let line = count_line(cursor, process, allowed, sums)?;

@@ -55,7 +55,8 @@ pub(crate) fn close(
     before: Sums,
     own: Own,
 ) -> Result<Sums, ReadFault>
-    ensures { let load = added (load_of before) (own_load own.steps own.nodes own.shown) in Reads (line_marks (holds && is_within load)) (λ u held. AreSums load held) cursor.old result cursor.new }
+    ensures { let load = added (load_of before) (own_load own.steps own.nodes own.shown) in Reads (line_marks (holds && is_within load))
+        (λ u held. AreSums load held) cursor.old result cursor.new }
 {
     let after = sum_of(before, own);
     let stands = both(holds, are_within(after));

@@ -67,3 +67,8 @@ pub(crate) fn at_end(cursor: &Cursor<'_>) -> bool
         None => false,
     }
 }
+
+/// How many steps a block has at least: most have one.
+pub(crate) fn first_turns(cursor: &Cursor<'_>) -> u128 {
+    if at_end(cursor) { 0 } else { 1 }
+}

@@ -14,5 +14,5 @@ mod targets;
 mod written;
 
 pub use assigned::{Assigned, read_assigned};
-pub use count::turns;
+pub use count::{items_for, rows_for, turns};
 pub use pieces::{Pieces, read_pieces};

@@ -8,7 +8,7 @@ ghost use Rattle.design_tree.specs.declared.step.Piece.{Piece as AnyPiece};
 ghost use Rattle.cvd_step_laws.specs.LineMarks.{with_vars};
 ghost use Rattle.cvd_step_laws.specs.StepMarks.{pieces_marks};
 
-use crate::count::turns;
+use crate::count::{rows_for, turns};
 use crate::piece::{Shown, read_piece};
 use cov_types::{NoMemory, Rows, Var};
 use cvd_cursor::{Cursor, ReadFault, number};
@@ -54,10 +54,12 @@ fn more_pieces(
 ) -> Result<Option<Pieces>, ReadFault>
     requires few { length vars.now ≤ 2 ^ 32 }
     requires variables { All IsVariable vars.now }
-    ensures { (n bytes : ℕ) → AreTurns bytes n turns → length cursor.old.rest ≤ 2 * bytes + 1 → Reads (pieces_marks n) (λ m held. PiecesIn (with_vars vars.now) m.items held) cursor.old result cursor.new }
+    ensures { (n bytes : ℕ) → AreTurns bytes n turns → length cursor.old.rest ≤ 2 * bytes + 1
+        → Reads (pieces_marks n) (λ m held. PiecesIn (with_vars vars.now) m.items held) cursor.old result cursor.new }
 {
+    let items = rows_for(alloc, turns)?;
     let mut kept = Pieces {
-        items: Rows::new(alloc),
+        items,
         nodes: 0,
         shown: 0,
     };
@@ -73,7 +75,8 @@ fn more_pieces(
 
 /// Keeps a piece behind others, where they may stand together; and says whether they may.
 fn keep(kept: &mut Pieces, whole: bool, one: Option<Shown>) -> Result<bool, NoMemory>
-    ensures { IfOk result (λ done. (d : Design) (ps : List AnyPiece) (p : AnyPiece) → SoFar d ps whole kept.old → PieceIn d p one → SoFar d (ps ++ p ∷ []) done kept.new) }
+    ensures { IfOk result (λ done. (d : Design) (ps : List AnyPiece) (p : AnyPiece) → SoFar d ps whole kept.old → PieceIn d p one → SoFar d (ps ++ p ∷ []) done
+        kept.new) }
 {
     if !whole {
         drop(one);
@@ -86,7 +89,8 @@ fn keep(kept: &mut Pieces, whole: bool, one: Option<Shown>) -> Result<bool, NoMe
 }
 
 fn put(kept: &mut Pieces, one: Shown) -> Result<bool, NoMemory>
-    ensures { IfOk result (λ done. (d : Design) (ps : List AnyPiece) (p : AnyPiece) → AreShown d ps kept.old → IsShown d p one → SoFar d (ps ++ p ∷ []) done kept.new) }
+    ensures { IfOk result (λ done. (d : Design) (ps : List AnyPiece) (p : AnyPiece) → AreShown d ps kept.old → IsShown d p one → SoFar d (ps ++ p ∷ []) done
+        kept.new) }
 {
     let nodes = kept.nodes.saturating_add(one.nodes);
     let shown = kept.shown.saturating_add(one.shown);

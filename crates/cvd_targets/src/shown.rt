@@ -22,7 +22,8 @@ const MOST: usize = 16_777_216;
 
 /// A piece, unless it displays too much.
 fn finished(piece: Piece, nodes: usize, shown: usize) -> Option<Shown>
-    ensures { (d : Design) → is_piece d piece ≡ true → nodes ≡ piece_nodes piece → piece_nodes piece ≤ 4194304 → shown ≡ piece_length d piece → PieceIn d piece result }
+    ensures { (d : Design) → is_piece d piece ≡ true → nodes ≡ piece_nodes piece → piece_nodes piece ≤ 4194304 → shown ≡ piece_length d piece → PieceIn d
+        piece result }
 {
     if shown > MOST {
         drop(piece);

@@ -8,7 +8,7 @@ ghost use Rattle.design_tree.specs.declared.step.Target.{Target as AnyTarget};
 ghost use Rattle.cvd_step_laws.specs.LineMarks.{with_vars};
 ghost use Rattle.cvd_step_laws.specs.StepMarks.{targets_marks};
 
-use crate::count::turns;
+use crate::count::{rows_for, turns};
 use crate::target::{Written, read_target};
 use cov_types::{NoMemory, ProcessKind, Rows, Var};
 use cvd_cursor::{Cursor, ReadFault, number};
@@ -51,10 +51,12 @@ fn more_targets(
     turns: u128,
 ) -> Result<Option<Targets>, ReadFault>
     requires { length vars.now ≤ 2 ^ 32 }
-    ensures { (n bytes : ℕ) → AreTurns bytes n turns → length cursor.old.rest ≤ 2 * bytes + 1 → Reads (targets_marks n) (λ m held. TargetsIn (with_vars vars.now) kind m.items held) cursor.old result cursor.new }
+    ensures { (n bytes : ℕ) → AreTurns bytes n turns → length cursor.old.rest ≤ 2 * bytes + 1
+        → Reads (targets_marks n) (λ m held. TargetsIn (with_vars vars.now) kind m.items held) cursor.old result cursor.new }
 {
+    let items = rows_for(alloc, turns)?;
     let mut kept = Targets {
-        items: Rows::new(alloc),
+        items,
         width: 0,
         nodes: 0,
     };
@@ -70,7 +72,8 @@ fn more_targets(
 
 /// Keeps a target behind others, where they may stand together; and says whether they may.
 fn keep(kept: &mut Targets, whole: bool, one: Option<Written>) -> Result<bool, NoMemory>
-    ensures { IfOk result (λ done. (d : Design) (k : AnyKind) (ts : List AnyTarget) (t : AnyTarget) → SoFar d k ts whole kept.old → TargetIn d k t one → SoFar d k (ts ++ t ∷ []) done kept.new) }
+    ensures { IfOk result (λ done. (d : Design) (k : AnyKind) (ts : List AnyTarget) (t : AnyTarget) → SoFar d k ts whole kept.old → TargetIn d k t one → SoFar d
+        k (ts ++ t ∷ []) done kept.new) }
 {
     if !whole {
         drop(one);

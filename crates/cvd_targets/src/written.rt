@@ -45,7 +45,8 @@ pub(crate) fn part_of(
     width: Option<u8>,
     at: Option<Position>,
 ) -> Option<Written>
-    ensures { (d : Design) (k : AnyKind) (v w : ℕ) (a : At) → NamedIn d k v named → width ≡ below 256 w → PositionIn d a at → TargetIn d k (part_target (v, (w, a))) result }
+    ensures { (d : Design) (k : AnyKind) (v w : ℕ) (a : At) → NamedIn d k v named → width ≡ below 256 w → PositionIn d a at
+        → TargetIn d k (part_target (v, (w, a))) result }
 {
     let Some(named) = named else {
         return None;
@@ -99,7 +100,8 @@ pub(crate) fn word_part_of(
     width: Option<u8>,
     at: Option<Position>,
 ) -> Option<Written>
-    ensures { (d : Design) (k : AnyKind) (v w : ℕ) (i a : At) → NamedIn d k v named → PositionIn d i word → width ≡ below 256 w → PositionIn d a at → TargetIn d k (word_part_target (v, (i, (w, a)))) result }
+    ensures { (d : Design) (k : AnyKind) (v w : ℕ) (i a : At) → NamedIn d k v named → PositionIn d i word
+        → width ≡ below 256 w → PositionIn d a at → TargetIn d k (word_part_target (v, (i, (w, a)))) result }
 {
     let Some(named) = named else {
         return None;

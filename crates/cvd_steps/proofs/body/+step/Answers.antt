@@ -52,9 +52,9 @@ all_steps-turns-init t c =
     let around = around_of c.args.vars.now c.args.process in
     let w = within (load_of c.args.sums) 0 in
     record {
-      takes = subst (λ l. Takes (turn around c.args.deep w) c.args.cursor.now c.args.cursor.now l) (sym c.new-steps.ensures)
+      takes = subst (λ l. Takes (turn around c.args.deep w) c.args.cursor.now c.args.cursor.now l) (sym c.in_ok-steps.ensures)
           (takes_no_step around c.args.deep w c.args.cursor.now);
-      sums_are = subst (λ l. AreSums (there around c.args.deep w l).load c.args.sums) (sym c.new-steps.ensures)
+      sums_are = subst (λ l. AreSums (there around c.args.deep w l).load c.args.sums) (sym c.in_ok-steps.ensures)
           (record { load_is = refl; within = c.requires.sums });
     }
 
@@ -255,7 +255,7 @@ pub all_steps-returns-in_err-next : goal.all_steps-returns-in_err-next
 all_steps-returns-in_err-next t c =
     let l = c.turns in
     let around = around_of c.args.vars.now c.args.process in
-    let p = err_from_is_err_and c.from_residual.result c.from_residual.ensures.1 in
+    let p = err_from_is_err_and c.from_residual-in_err-next.result c.from_residual-in_err-next.ensures.1 in
     rw (p.1, p.2) (refused_at around c.args.deep (load_of c.args.sums) l.steps (load_of l.sums) c.len.result l.invariant.sums_are.load_is c.len.ensures
     c.args.cursor.now l.cursor _ _ l.invariant.takes (sym c.at_end.ensures ∙ c.turns-test.true) c.in_err-next.ensures)
 
@@ -305,8 +305,8 @@ pub all_arms-loop-left-init : goal.all_arms-loop-left-init
 all_arms-loop-left-init t c =
     let lines = arm_lines_at (around_of c.args.vars.now c.args.process) c.args.each.width c.args.each.deep in
     let before = load_of c.args.sums in
-    lists.at_first StepArm Load (each_lines lines) (each_load lines) (listed.Kept lines before c.new-arms.result c.args.sums) before c.args.cursor.now
-    c.args.each.turns (listed.at_first lines before c.new-arms.result c.args.sums c.new-arms.ensures (record { load_is = refl; within = c.requires.sums }))
+    lists.at_first StepArm Load (each_lines lines) (each_load lines) (listed.Kept lines before c.in_ok-arms.arms c.args.sums) before c.args.cursor.now
+    c.args.each.turns (listed.at_first lines before c.in_ok-arms.arms c.args.sums c.in_ok-arms.ensures (record { load_is = refl; within = c.requires.sums }))
 
 pub all_arms-returns-in_err-next : goal.all_arms-returns-in_err-next
 all_arms-returns-in_err-next t c = λ n bytes are most.
@@ -317,7 +317,7 @@ all_arms-returns-in_err-next t c = λ n bytes are most.
     let lines = arm_lines_at around w deep in
     let before = load_of c.args.sums in
     let g = l.invariant in
-    let p = err_from_is_err_and c.from_residual.result c.from_residual.ensures.1 in
+    let p = err_from_is_err_and c.from_residual-in_err-next.result c.from_residual-in_err-next.ensures.1 in
     rw (p.1, p.2) (lists.stopped StepArm Load (each_lines lines) (each_load lines) (λ s. apart_arm around w deep s) some_arm
     (listed.Kept lines before l.arms l.sums) before c.args.cursor.now l.cursor _ _ c.args.each.turns l.left n bytes g (omega arith) are
     (subst (λ b. Refused (arm_marks around w deep b) l.cursor c.in_err-next.field-0.0 c.arm.new.cursor) g.held.sums_are.load_is c.in_err-next.ensures))

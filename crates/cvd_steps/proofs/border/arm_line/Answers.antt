@@ -40,7 +40,9 @@ returns-in_err-end_line c =
     let before = load_of c.args.sums in
     let a = c.in_ok-expect.ensures in
     let b = c.in_ok-count.ensures in
-    let head = takes_both (Unit {0}) (λ u. ℕ) (marks (this_word (codes "arm"))) (λ u. marks number_tokens) c.args.cursor.now _ c.number.new.cursor a.0 b.0 a.1.0 b.1.0 in
+    let head =
+    takes_both (Unit {0}) (λ u. ℕ) (marks (this_word (codes "arm"))) (λ u. marks number_tokens) c.args.cursor.now _ c.number.new.cursor a.0 b.0 a.1.0
+    b.1.0 in
     let p = err_from_is_err_and c.from_residual-in_err-end_line.result c.from_residual-in_err-end_line.ensures.1 in
     rw (p.1, p.2) (refused_end ArmHead Armed arm_value (λ q. stands before (arm_line q.1)) (arm_line_marks before)
     (λ q. (q.0, (q.1, tt))) (λ q. (q.0, q.1.0)) (λ q. refl) (λ q. refl) apart_arm_value (a.0, b.0) _ (arm_flag before b.0 c.requires)
@@ -52,7 +54,9 @@ returns c =
     let a = c.in_ok-expect.ensures in
     let b = c.in_ok-count.ensures in
     let e = c.in_ok-end_line.ensures in
-    let head = takes_both (Unit {0}) (λ u. ℕ) (marks (this_word (codes "arm"))) (λ u. marks number_tokens) c.args.cursor.now _ c.number.new.cursor a.0 b.0 a.1.0 b.1.0 in (
+    let head =
+    takes_both (Unit {0}) (λ u. ℕ) (marks (this_word (codes "arm"))) (λ u. marks number_tokens) c.args.cursor.now _ c.number.new.cursor a.0 b.0 a.1.0
+    b.1.0 in (
       (a.0, (b.0, tt)),
       (
         takes_line ArmHead Armed arm_value (λ q. stands before (arm_line q.1)) (arm_line_marks before)

@@ -16,8 +16,8 @@ pub loop-left-init : goal.loop-left-init
 loop-left-init c =
     let lines = item_lines_at (around_of c.args.vars.now c.args.process) c.args.width in
     let before = load_of c.args.sums in
-    at_first StepItem Load (each_lines lines) (each_load lines) (Kept lines before c.new-items.result c.args.sums) before c.args.cursor.now c.args.turns
-    (kept_first lines before c.new-items.result c.args.sums c.new-items.ensures (record { load_is = refl; within = c.requires.sums }))
+    at_first StepItem Load (each_lines lines) (each_load lines) (Kept lines before c.in_ok-items.items c.args.sums) before c.args.cursor.now c.args.turns
+    (kept_first lines before c.in_ok-items.items c.args.sums c.in_ok-items.ensures (record { load_is = refl; within = c.requires.sums }))
 
 pub returns-in_err-next : goal.returns-in_err-next
 returns-in_err-next c = λ n bytes are most.
@@ -26,7 +26,7 @@ returns-in_err-next c = λ n bytes are most.
     let lines = item_lines_at around c.args.width in
     let before = load_of c.args.sums in
     let g = l.invariant in
-    let p = err_from_is_err_and c.from_residual.result c.from_residual.ensures.1 in
+    let p = err_from_is_err_and c.from_residual-in_err-next.result c.from_residual-in_err-next.ensures.1 in
     rw (p.1, p.2) (stopped StepItem Load (each_lines lines) (each_load lines) (λ s. apart_item around c.args.width s) some_item
     (Kept lines before l.items l.sums) before c.args.cursor.now l.cursor _ _ c.args.turns l.left n bytes g (omega arith) are
     (subst (λ b. Refused (item_marks around c.args.width b) l.cursor c.in_err-next.field-0.0 c.read_item.new.cursor) g.held.sums_are.load_is

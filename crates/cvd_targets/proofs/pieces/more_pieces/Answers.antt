@@ -12,13 +12,13 @@ use Rattle.cvd_targets.proofs.pieces.more_pieces.Goals as goal
 pub loop-left-init : goal.loop-left-init
 loop-left-init c =
     at_first Piece (Unit {0}) (each_tokens piece_tokens) unchanged
-    (λ xs. SoFar (with_vars c.args.vars.now) xs true (record { items = c.new.result; nodes = 0; shown = 0 })) tt c.args.cursor.now c.args.turns
-    (none_yet (with_vars c.args.vars.now) _ c.new.ensures)
+    (λ xs. SoFar (with_vars c.args.vars.now) xs true (record { items = c.in_ok-items.items; nodes = 0; shown = 0 })) tt c.args.cursor.now c.args.turns
+    (none_yet (with_vars c.args.vars.now) _ c.in_ok-items.ensures)
 
 pub returns-in_err-one : goal.returns-in_err-one
 returns-in_err-one c = λ n bytes are most.
     let l = c.loop-left in
-    let p = err_from_is_err_and c.from_residual.result c.from_residual.ensures.1 in
+    let p = err_from_is_err_and c.from_residual-in_err-one.result c.from_residual-in_err-one.ensures.1 in
     rw (p.1, p.2) (stopped Piece (Unit {0}) (each_tokens piece_tokens) unchanged (λ u. apart_pieces) some_piece
     (λ xs. SoFar (with_vars c.args.vars.now) xs l.whole l.kept) tt c.args.cursor.now
     l.cursor _ _ c.args.turns l.left n bytes l.invariant (omega arith) are c.in_err-one.ensures)
@@ -35,13 +35,17 @@ loop-left-preserved c =
 pub returns-then-whole : goal.returns-then-whole
 returns-then-whole c = λ n bytes are most.
     let l = c.loop-left in
-    let f = finished Piece (Unit {0}) (each_tokens piece_tokens) unchanged (λ u x. piece_long x) (λ xs. SoFar (with_vars c.args.vars.now) xs l.whole l.kept) tt c.args.cursor.now
+    let f =
+    finished Piece (Unit {0}) (each_tokens piece_tokens) unchanged (λ u x. piece_long x) (λ xs. SoFar (with_vars c.args.vars.now) xs l.whole l.kept) tt
+    c.args.cursor.now
     l.cursor c.args.turns l.left n bytes l.invariant (omega arith) are most in
     (f.0, (f.1.0, subst (λ w. SoFar (with_vars c.args.vars.now) f.0.items w l.kept) c.if-whole.true f.1.1))
 
 pub returns-else-whole : goal.returns-else-whole
 returns-else-whole c = λ n bytes are most.
     let l = c.loop-left in
-    let f = finished Piece (Unit {0}) (each_tokens piece_tokens) unchanged (λ u x. piece_long x) (λ xs. SoFar (with_vars c.args.vars.now) xs l.whole l.kept) tt c.args.cursor.now
+    let f =
+    finished Piece (Unit {0}) (each_tokens piece_tokens) unchanged (λ u x. piece_long x) (λ xs. SoFar (with_vars c.args.vars.now) xs l.whole l.kept) tt
+    c.args.cursor.now
     l.cursor c.args.turns l.left n bytes l.invariant (omega arith) are most in
     (f.0, (f.1.0, subst (λ w. SoFar (with_vars c.args.vars.now) f.0.items w l.kept) c.if-whole.false f.1.1))
