@@ -17,6 +17,7 @@ ghost use Rattle.sim_frame.specs.RunEnds.{is_stop};
 use command_ending::Ending;
 use cov_port::{Files, Sink};
 use design_tree::Instrumented;
+use sim_ending::StimulusLines;
 use sim_frame::{EndRoom, OpenStimulus, Simulation, open_stimulus};
 use sim_run::{RowsEnd, run_stimulus};
 use simulator::{CycleEnd, Machine, Order};
@@ -24,6 +25,8 @@ use std::alloc::Global;
 use std::marker::Brand;
 use std::sync::ledger::{Blank, Ledger};
 use step_count::Steps;
+use stim_lines::Row;
+use stimulus::StimReader;
 
 /// Runs a design, which the design file of this name holds, on the stimulus, and stores the data file. The order is one that the flow check
 /// gives.
@@ -54,40 +57,56 @@ pub fn simulate_design<F: Files, O: Sink>(
         Err(_) => return Ending::NoMemory,
     };
     match open_stimulus(alloc, files, asked, design) {
-        Ok(stimulus) => run_open::<F, O, Brand>(
-            files,
-            out,
-            asked,
-            design,
-            room,
-            machine,
-            stimulus,
-            Blank::new(1),
-        ),
+        Ok(OpenStimulus { reader, row, lines }) => {
+            let mut run = OpenRun {
+                machine,
+                reader,
+                row,
+            };
+            run_open::<F, O, Brand>(
+                files,
+                out,
+                asked,
+                design,
+                room,
+                &mut run,
+                lines,
+                Blank::new(1),
+            )
+        }
         Err(ending) => ending,
     }
 }
 
-/// Runs a design on an open stimulus.
+/// A machine, and the rows of its stimulus.
+#[derive(Drop)]
+struct OpenRun<'a> {
+    machine: Machine<'a>,
+    reader: StimReader,
+    row: Row,
+}
+
+/// Runs a machine that hasn't started on the stimulus, and ends the command.
+// It borrows the run, so that the caller alone frees it, at one place.
 fn run_open<F: Files, O: Sink, L: Ledger>(
     files: &mut F,
     out: &mut O,
     asked: &Simulation<'_>,
     design: &Instrumented,
     room: EndRoom<'_>,
-    machine: Machine<'_>,
-    stimulus: OpenStimulus<'_>,
+    run: &mut OpenRun<'_>,
+    lines: StimulusLines<'_>,
     blank: Blank,
 ) -> Ending
     requires holds { IfSome (F.held files.old) (λ held. HoldsDesign held asked.now.design.now design.now) }
     requires bits { asked.now.count_bits ≤ 64 }
     requires room { IsEndRoomFor design.now (seen asked.now) room }
-    requires sound { IsSound machine }
-    requires design { machine.design ≡ design.now }
-    requires first { machine.started ≡ false }
-    requires begun { IfSome (F.held files.old) (λ held. IsBegun held asked.now.stimulus.now design.now.design stimulus.reader (F.rest files.old)) }
-    requires reader { IsReaderOf design.now.design stimulus.reader stimulus.row }
-    requires lines { stimulus.lines ≡ asked.now.stimulus.now }
+    requires sound { IsSound run.old.machine }
+    requires design { run.old.machine.design ≡ design.now }
+    requires first { run.old.machine.started ≡ false }
+    requires begun { IfSome (F.held files.old) (λ held. IsBegun held asked.now.stimulus.now design.now.design run.old.reader (F.rest files.old)) }
+    requires reader { IsReaderOf design.now.design run.old.reader run.old.row }
+    requires lines { lines ≡ asked.now.stimulus.now }
     requires name { blank.name ≡ L.name }
     requires parts { blank.parts ≡ L.parts }
     requires some { 0 < blank.parts }
@@ -97,17 +116,13 @@ fn run_open<F: Files, O: Sink, L: Ledger>(
     ensures sparing { IfSome (F.held files.old) (SimSpares (seen asked.now) (status_at result) (F.rest files.new)) }
 {
     let mut room = room;
-    let mut machine = machine;
-    let OpenStimulus { reader, row, lines } = stimulus;
-    let mut reader = reader;
-    let mut row = row;
     let mut steps = Steps::<L>::new(blank);
     match run_stimulus(
         files,
         out,
-        &mut reader,
-        &mut row,
-        &mut machine,
+        &mut run.reader,
+        &mut run.row,
+        &mut run.machine,
         &mut room.output,
         &mut steps,
     ) {
@@ -115,7 +130,7 @@ fn run_open<F: Files, O: Sink, L: Ledger>(
             files,
             out,
             design,
-            machine.counts(),
+            run.machine.counts(),
             asked.count_bits,
             was_stopped(end),
         ),

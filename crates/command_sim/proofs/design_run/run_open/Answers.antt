@@ -31,7 +31,7 @@ returns-in-Ended-clause-leaves g c =
       unharmed = record { files = c.in-Ended.ensures.causes.0; out = c.in-Ended.ensures.causes.1 };
       output = ended.printed;
     })
-    (ended_is asked x c.args.stimulus.reader (g.F.Files.rest c.args.files.now) (g.F.Files.held c.args.files.now) (end_seen c.in-Ended.end) ended.text
+    (ended_is asked x c.args.run.now.reader (g.F.Files.rest c.args.files.now) (g.F.Files.held c.args.files.now) (end_seen c.in-Ended.end) ended.text
     c.run_stimulus.new.machine.counts c.requires.holds c.requires.begun ended.run (whole_told c.in-Ended.end _ c.in-Ended.ensures.whole)) stored
 
 pub returns-in-Ended-clause-sparing : goal.returns-in-Ended-clause-sparing
@@ -55,13 +55,13 @@ returns-in-Refused-clause-leaves g c =
       unharmed = record { files = c.in-Refused.ensures.causes.0; out = c.in-Refused.ensures.causes.1 };
       output = ran.printed;
     })
-    (refused_is asked x c.args.stimulus.reader (g.F.Files.rest c.args.files.now) (g.F.Files.held c.args.files.now) c.in-Refused.fault ran.text
+    (refused_is asked x c.args.run.now.reader (g.F.Files.rest c.args.files.now) (g.F.Files.held c.args.files.now) c.in-Refused.fault ran.text
     c.run_stimulus.new.machine.counts c.requires.holds c.requires.begun ran.run c.in-Refused.ensures.fault) refl refl behind
 
 pub returns-in-Refused-clause-sparing : goal.returns-in-Refused-clause-sparing
 returns-in-Refused-clause-sparing g c =
     few_spares (seen c.args.asked.now) (g.F.Files.held c.args.files.now) c.end_with.result _
-    (refused_few (seen c.args.asked.now) c.args.design.now c.args.stimulus.reader (g.F.Files.rest c.args.files.now) (g.F.Files.held c.args.files.now)
+    (refused_few (seen c.args.asked.now) c.args.design.now c.args.run.now.reader (g.F.Files.rest c.args.files.now) (g.F.Files.held c.args.files.now)
     c.in-Refused.fault _ c.requires.holds c.requires.begun c.in-Refused.ensures.fault c.in-Refused.ensures.frugal)
 
 -- ---- a call fails
@@ -74,7 +74,7 @@ returns-in-ReadFailed-clause-leaves g c =
     rw (c.read_failed.ensures, c.requires.lines)
     (read_failed_leaves asked _ _ c.in-ReadFailed.ensures.causes.0 c.in-ReadFailed.ensures.causes.1
     (cut_part asked x cut.text _ _ c.in-ReadFailed.ensures.held
-    (runs_on asked x c.args.stimulus.reader (g.F.Files.rest c.args.files.now) (g.F.Files.held c.args.files.now) cut.text c.requires.holds
+    (runs_on asked x c.args.run.now.reader (g.F.Files.rest c.args.files.now) (g.F.Files.held c.args.files.now) cut.text c.requires.holds
     c.requires.begun cut.run) cut.part))
 
 pub returns-in-ReadFailed-clause-sparing : goal.returns-in-ReadFailed-clause-sparing
@@ -89,5 +89,5 @@ returns-in-PutFailed-clause-leaves g c =
     let cut = rw (c.requires.design, c.requires.room.output) at c.in-PutFailed.ensures.begun in
     put_failed_leaves asked _ _ c.in-PutFailed.ensures.causes.1 c.in-PutFailed.ensures.causes.0
     (cut_part asked x cut.text _ _ c.in-PutFailed.ensures.held
-    (runs_on asked x c.args.stimulus.reader (g.F.Files.rest c.args.files.now) (g.F.Files.held c.args.files.now) cut.text c.requires.holds
+    (runs_on asked x c.args.run.now.reader (g.F.Files.rest c.args.files.now) (g.F.Files.held c.args.files.now) cut.text c.requires.holds
     c.requires.begun cut.run) cut.part)
