@@ -1,0 +1,5 @@
+pub mod Constants
+pub mod Refusals
+pub mod SoundExpressions
+pub mod SoundSources
+pub mod Weights

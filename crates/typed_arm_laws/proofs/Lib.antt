@@ -1,0 +1,4 @@
+mod EventsOf
+mod Insertion
+mod SourceEvents
+pub mod RowsOfArms

@@ -1,0 +1,8 @@
+mod FitFolds
+mod FixedFits
+mod Nodes
+mod Sizes
+mod StatementFolds
+mod Targets
+pub mod TypedSteps
+pub mod TypedWidths

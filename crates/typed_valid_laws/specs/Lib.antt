@@ -1,0 +1,3 @@
+pub mod NumbersFit
+pub mod StatementsFit
+pub mod ValidLaws
