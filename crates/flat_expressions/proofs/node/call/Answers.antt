@@ -1,0 +1,11 @@
+use Rattle.vlog_tree.specs.declared.expression.Expr.TheVariants as e
+use Rattle.flat_meaning.specs.FlatForm.{IsFlat, of_call}
+use Rattle.flat_expressions.proofs.Copying.{one_made, one_fails}
+use Rattle.flat_expressions.proofs.node.call.Goals as goal
+
+pub returns-in-Ok : goal.returns-in-Ok
+returns-in-Ok c = λ vars env a l h.
+    one_made (IsFlat vars env a) (IsFlat vars env (e.Call c.args.name a)) l c.args.of _ _ c.made_call.result c.in-Ok.is h (λ k. of_call k) c.made_call.ensures
+
+pub returns-in-Err : goal.returns-in-Err
+returns-in-Err c = λ vars env a l h. one_fails (IsFlat vars env a) (IsFlat vars env (e.Call c.args.name a)) l c.args.of _ c.in-Err.is h

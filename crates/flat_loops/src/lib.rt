@@ -1,0 +1,6 @@
+//! The names in the heads of loops of a statement.
+#![tactic(auto)]
+
+mod heads;
+
+pub use heads::loop_names;

@@ -1,0 +1,3 @@
+pub mod NameEquations
+mod Uses
+mod TargetUses

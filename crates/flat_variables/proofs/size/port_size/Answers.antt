@@ -1,0 +1,11 @@
+use Rattle.std.proofs.Common.{◌≡◌, ◌∙◌, ap, sym, subst, Option, Some}
+use Rattle.std.specs.Prelude.{IfOk}
+use Rattle.vlog_tree.specs.declared.expression.RangeExpr.{RangeExpr}
+use Rattle.flat_source_meaning.specs.Variables.{span_or_scalar}
+use Rattle.flat_variables.specs.Sizes.{span_of}
+use Rattle.flat_variables.proofs.size.port_size.Goals as goal
+
+pub returns-in-Some-clause-value : goal.returns-in-Some-clause-value
+returns-in-Some-clause-value g c = λ known h.
+    subst (λ (x : Option RangeExpr). IfOk c.of_range.result (λ size. span_of size ≡ span_or_scalar known x)) (sym (c.in-Some.is ∙ ap Some (sym c.get.ensures)))
+    (c.of_range.ensures.value known h)

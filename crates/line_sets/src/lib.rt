@@ -1,0 +1,6 @@
+//! Line lists of sets of lines.
+#![tactic(auto)]
+
+mod lists;
+
+pub use lists::line_list;
