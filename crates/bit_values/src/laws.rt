@@ -1,7 +1,13 @@
 //! Laws of the values that the calls compute, for the proofs of other crates: a call of one of these
 //! functions does nothing, and its contract is the law.
 
-ghost use Rattle.bit_values.specs.Laws.{ModuloFits, AddFits, SubFits, MulFits, NegFits, TruncateFits, UdivFits, UremFits, SdivFits, SremFits, AndFits, OrFits, XorFits, NotFits, ShlFits, ShrFits, SarFits, SelectFits, AndBits, OrBits, XorBits, RedAndBits, RedOrBits, RedXorBits, ExtendFits, ConcatFits, ReplaceFits, ExtendKeepsSigned, TruncateUndoesExtend, ExtendBits, ExtendZeros, ExtendSigns, TruncateBits, TruncateZeros, ConcatLowBits, ConcatHighBits, NotBits, ShlZeros, ShlBits, ShrBits, SarBits, SarSigns, SelectBits, SelectZeros, SelectPastTop, SelectBelow, SelectConcatHigh, SelectConcatLow, ReplacePartBits, ReplaceLowBits, ReplaceHighBits, ReplaceZeros, ReplacePastTop, ReplaceBelow, SelectReplaced, SelectBelowReplaced, SelectAboveReplaced};
+ghost use Rattle.bit_values.specs.Laws.{ModuloFits, AddFits, SubFits, MulFits, NegFits, TruncateFits, UdivFits, UremFits, SdivFits, SremFits, AndFits};
+ghost use Rattle.bit_values.specs.Laws.{OrFits, XorFits, NotFits, ShlFits, ShrFits, SarFits, SelectFits, AndBits, OrBits, XorBits, RedAndBits, RedOrBits};
+ghost use Rattle.bit_values.specs.Laws.{RedXorBits, ExtendFits, ConcatFits, ReplaceFits, ExtendKeepsSigned, TruncateUndoesExtend, ExtendBits, ExtendZeros};
+ghost use Rattle.bit_values.specs.Laws.{ExtendSigns, TruncateBits, TruncateZeros, ConcatLowBits, ConcatHighBits, NotBits, ShlZeros, ShlBits, ShrBits};
+ghost use Rattle.bit_values.specs.Laws.{SarBits, SarSigns, SelectBits, SelectZeros, SelectPastTop, SelectBelow, SelectConcatHigh, SelectConcatLow};
+ghost use Rattle.bit_values.specs.Laws.{ReplacePartBits, ReplaceLowBits, ReplaceHighBits, ReplaceZeros, ReplacePastTop, ReplaceBelow, SelectReplaced};
+ghost use Rattle.bit_values.specs.Laws.{SelectBelowReplaced, SelectAboveReplaced};
 
 /// Results are values of their width.
 pub fn results_fit()

@@ -57,7 +57,8 @@ fn modules_at(
     requires short { sum (map length texts.now) ≤ 4194304 }
     requires within { number < length texts.now }
     ensures ok { IfOk result (λ count. (file : SourceFile) × IsDesign number (slice_index_or texts.now number []) file × (count ≡ length file.modules)) }
-    ensures err { IfErr result (IsRefusal (RefusesDesign number (slice_index_or (map (λ name. name.now) names.now) number []) (slice_index_or texts.now number []))) }
+    ensures err { IfErr result (IsRefusal
+        (RefusesDesign number (slice_index_or (map (λ name. name.now) names.now) number []) (slice_index_or texts.now number []))) }
 {
     modules_of(
         alloc,

@@ -55,7 +55,8 @@ fn merged_file<F: Files>(
         × IfSome (F.held files.old) (λ held. continued [] (all_arrivals held keeps_all (map (λ name. name.now) names.now)) ≡ Ok counts)) }
     ensures ok_quiet { OnOk result (F.faults files.new ≡ F.faults files.old) }
     ensures err { IfErr result (Stops (files_promise [] (map (λ name. name.now) names.now)) (F.held files.old) (F.faults files.old) (F.faults files.new)) }
-    ensures sparing { IfErr result (λ ending. IsSparing (map (λ name. name.now) names.now) (status_at ending) (line_at ending) (F.rest files.new) (F.held files.old)) }
+    ensures sparing { IfErr result
+        (λ ending. IsSparing (map (λ name. name.now) names.now) (status_at ending) (line_at ending) (F.rest files.new) (F.held files.old)) }
     ensures held { F.held files.new ≡ F.held files.old }
 {
     let mut merged = match Merged::new(alloc) {

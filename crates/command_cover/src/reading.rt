@@ -56,7 +56,8 @@ fn add_open<F: Files>(
     ensures ok { OnOk result (IfSome (F.held files.old) (λ held. continued merged.old (file_arrivals keeps_all name.now (held name.now)) ≡ Ok merged.new)) }
     ensures ok_quiet { OnOk result (F.faults files.new ≡ F.faults files.old) }
     ensures err { IfErr result (Stops (file_promise merged.old name.now) (F.held files.old) (F.faults files.old) (F.faults files.new)) }
-    ensures sparing { IfErr result (λ ending. status_at ending ≡ BadData → IfSome (F.rest files.old) (λ text. TakesFew name.now text (line_at ending) (F.rest files.new))) }
+    ensures sparing { IfErr result
+        (λ ending. status_at ending ≡ BadData → IfSome (F.rest files.old) (λ text. TakesFew name.now text (line_at ending) (F.rest files.new))) }
     ensures held { F.held files.new ≡ F.held files.old }
 {
     let mut reader = match DataReader::new(alloc) {
@@ -86,7 +87,8 @@ fn add_file<F: Files>(
     ensures ok { OnOk result (IfSome (F.held files.old) (λ held. continued merged.old (file_arrivals keeps_all name.now (held name.now)) ≡ Ok merged.new)) }
     ensures ok_quiet { OnOk result (F.faults files.new ≡ F.faults files.old) }
     ensures err { IfErr result (Stops (file_promise merged.old name.now) (F.held files.old) (F.faults files.old) (F.faults files.new)) }
-    ensures sparing { IfErr result (λ ending. status_at ending ≡ BadData → IfSome (F.held files.old) (TakesFewAt name.now (line_at ending) (F.rest files.new))) }
+    ensures sparing { IfErr result
+        (λ ending. status_at ending ≡ BadData → IfSome (F.held files.old) (TakesFewAt name.now (line_at ending) (F.rest files.new))) }
     ensures held { F.held files.new ≡ F.held files.old }
 {
     match open_input(alloc, files, name) {
@@ -102,10 +104,13 @@ pub(crate) fn add_files<F: Files>(
     names: &[&str],
     merged: &mut Merged,
 ) -> Result<(), Ending>
-    ensures ok { OnOk result (IfSome (F.held files.old) (λ held. continued merged.old (all_arrivals held keeps_all (map (λ name. name.now) names.now)) ≡ Ok merged.new)) }
+    ensures ok { OnOk result (IfSome (F.held files.old)
+        (λ held. continued merged.old (all_arrivals held keeps_all (map (λ name. name.now) names.now)) ≡ Ok merged.new)) }
     ensures ok_quiet { OnOk result (F.faults files.new ≡ F.faults files.old) }
-    ensures err { IfErr result (Stops (files_promise merged.old (map (λ name. name.now) names.now)) (F.held files.old) (F.faults files.old) (F.faults files.new)) }
-    ensures sparing { IfErr result (λ ending. IsSparing (map (λ name. name.now) names.now) (status_at ending) (line_at ending) (F.rest files.new) (F.held files.old)) }
+    ensures err { IfErr result (Stops (files_promise merged.old (map (λ name. name.now) names.now)) (F.held files.old) (F.faults files.old)
+        (F.faults files.new)) }
+    ensures sparing { IfErr result
+        (λ ending. IsSparing (map (λ name. name.now) names.now) (status_at ending) (line_at ending) (F.rest files.new) (F.held files.old)) }
     ensures held { F.held files.new ≡ F.held files.old }
 {
     'names: for name in names {

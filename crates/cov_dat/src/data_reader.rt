@@ -1,6 +1,7 @@
 ghost use Rattle.std.specs.Prelude.{◌≡◌, ◌≤◌, ◌<◌, ◌+◌, [], ◌++◌, List, ℕ, true, None, Some, Ok, Err, length, IfOk, IfErr, IfSome, IsErrOf, OnOk, OnErr};
 ghost use Rattle.cov_port.specs.Files.{ReadsRose};
-ghost use Rattle.cov_dat.specs.Streaming.{FaultOf, FirstFault, HasKey, IsFileFault, IsFrugal, ReadFailedBy, StandsIn, TakesBytes, TellsLeft, fresh_reader, line_of, reading_left};
+ghost use Rattle.cov_dat.specs.Streaming.{FaultOf, FirstFault, HasKey, IsFileFault, IsFrugal, ReadFailedBy, StandsIn, TakesBytes};
+ghost use Rattle.cov_dat.specs.Streaming.{TellsLeft, fresh_reader, line_of, reading_left};
 ghost use Rattle.cov_port.specs.Lines.{bytes_of};
 ghost use Rattle.cov_dat.specs.DataLine.{says_within};
 ghost use Rattle.cov_dat.specs.Reading.{nothing_read, only_fault, reading_from};
@@ -40,7 +41,14 @@ impl Model for DataReader {
 
     ghost Value = { ReaderState };
 
-    ghost view = { λ r. record { cutter = r.cutter; number = r.number; bytes = r.bytes; key = slice_range r.cutter.line r.key_start r.key_end; count = r.count; fault = r.fault } };
+    ghost view = { λ r. record {
+      cutter = r.cutter;
+      number = r.number;
+      bytes = r.bytes;
+      key = slice_range r.cutter.line r.key_start r.key_end;
+      count = r.count;
+      fault = r.fault;
+    } };
 
     ghost invariant = { λ r. IsInFile r.number r.bytes × (r.key_start ≤ r.key_end) × (r.key_end ≤ length r.cutter.line) × FollowsFault r.fault r.cutter.fault };
 }
@@ -78,7 +86,8 @@ impl DataReader {
     /// Reads the next record of the open file, or tells that its end is reached. It takes no memory.
     pub fn next_record<F: Files>(&mut self, files: &mut F) -> Result<RecordStep, DataFault>
         // The records of what is left, one after the other, and the first fault.
-        ensures step { IfOk result (λ step. TellsLeft step self.new.key self.new.count (reading_left self.old (F.rest files.old)) (reading_left self.new (F.rest files.new))) }
+        ensures step { IfOk result (λ step. TellsLeft step self.new.key self.new.count (reading_left self.old (F.rest files.old))
+            (reading_left self.new (F.rest files.new))) }
         ensures key { IfOk result (λ step. HasKey step self.new.key self.new.count) }
         ensures fault { IfErr result (λ flaw. FaultOf (reading_left self.old (F.rest files.old)) flaw) }
         ensures names { IfErr result (λ flaw. FirstFault self.old.fault flaw) }
@@ -95,7 +104,8 @@ impl DataReader {
 
         // How much is taken of a file whose bytes are told.
         ensures stands { OnOk result ((text : List ℕ) → StandsIn text self.old (F.rest files.old) → StandsIn text self.new (F.rest files.new)) }
-        ensures frugal { IfErr result (λ flaw. (text : List ℕ) → StandsIn text self.old (F.rest files.old) → IfSome (line_of flaw) (λ n. IsFrugal text (F.rest files.new) n)) }
+        ensures frugal { IfErr result (λ flaw. (text : List ℕ) → StandsIn text self.old (F.rest files.old) → IfSome (line_of flaw)
+            (λ n. IsFrugal text (F.rest files.new) n)) }
 
         // Each fault of a call has its cause, and nothing else raises a number.
         ensures held { F.held files.new ≡ F.held files.old }
@@ -129,7 +139,8 @@ impl DataReader {
     /// Takes one line.
     fn take_line<F: Files>(&mut self, files: &mut F) -> Result<LineStory, DataFault>
         requires { self.old.fault ≡ None }
-        ensures comes { IfOk result (λ story. ComesTold story self.new.key self.new.count (reading_here self.old (F.rest files.old)) (reading_here self.new (F.rest files.new))) }
+        ensures comes { IfOk result (λ story. ComesTold story self.new.key self.new.count (reading_here self.old (F.rest files.old))
+            (reading_here self.new (F.rest files.new))) }
         ensures key { IfOk result (λ story. KeyOf story self.new.key self.new.count) }
         ensures nothing { OnErr result ((self.new.key ≡ []) × (self.new.count ≡ 0)) }
         ensures fault { IfErr result (λ flaw. FaultOf (reading_here self.old (F.rest files.old)) flaw) }
@@ -139,7 +150,8 @@ impl DataReader {
         ensures moves { IfOk result (λ story. Moves story self.old.bytes self.new.bytes) }
         ensures within { self.new.bytes ≤ 4294967296 }
         ensures stands { OnOk result ((text : List ℕ) → StandsIn text self.old (F.rest files.old) → StandsIn text self.new (F.rest files.new)) }
-        ensures frugal { IfErr result (λ flaw. (text : List ℕ) → StandsIn text self.old (F.rest files.old) → IfSome (line_of flaw) (λ n. IsFrugal text (F.rest files.new) n)) }
+        ensures frugal { IfErr result (λ flaw. (text : List ℕ) → StandsIn text self.old (F.rest files.old) → IfSome (line_of flaw)
+            (λ n. IsFrugal text (F.rest files.new) n)) }
         ensures held { F.held files.new ≡ F.held files.old }
         ensures ok_quiet { OnOk result (F.faults files.new ≡ F.faults files.old) }
         ensures fault_quiet { IfErr result (λ flaw. (flaw ≡ fault.Failed → ⊥) → F.faults files.new ≡ F.faults files.old) }
@@ -170,10 +182,12 @@ impl DataReader {
         requires some { 0 < bytes_of (self.old.cutter.line, ended) }
         requires no_record { (self.old.key ≡ []) × (self.old.count ≡ 0) }
         requires no_fault { self.old.fault ≡ None }
-        ensures story { IfOk result (λ story. IsStory story self.new.key self.new.count (says_within (self.old.bytes + bytes_of (self.old.cutter.line, ended)) self.old.number (self.old.cutter.line, ended))) }
+        ensures story { IfOk result (λ story. IsStory story self.new.key self.new.count
+            (says_within (self.old.bytes + bytes_of (self.old.cutter.line, ended)) self.old.number (self.old.cutter.line, ended))) }
         ensures moved { OnOk result (IsNext (bytes_of (self.old.cutter.line, ended)) self.old self.new) }
         ensures within { self.new.bytes ≤ 4294967296 }
-        ensures fault { IfErr result (λ flaw. Err flaw ≡ says_within (self.old.bytes + bytes_of (self.old.cutter.line, ended)) self.old.number (self.old.cutter.line, ended)) }
+        ensures fault { IfErr result (λ flaw. Err flaw ≡ says_within (self.old.bytes + bytes_of (self.old.cutter.line, ended)) self.old.number
+            (self.old.cutter.line, ended)) }
         ensures err { IfErr result (λ flaw. self.new ≡ record self.old { fault = Some flaw }) }
         ensures line { IfErr result (λ flaw. NamesLine flaw self.old.number) }
         ensures no_failure { IsErrOf result fault.Failed → ⊥ }
@@ -193,7 +207,8 @@ impl DataReader {
         requires short { length self.old.cutter.line ≤ 65535 }
         requires some { 0 < bytes_of (self.old.cutter.line, ended) }
         requires no_record { (self.old.key ≡ []) × (self.old.count ≡ 0) }
-        ensures says { seen_read self.new.key self.new.count result ≡ says_within (self.old.bytes + bytes_of (self.old.cutter.line, ended)) self.old.number (self.old.cutter.line, ended) }
+        ensures says { seen_read self.new.key self.new.count result ≡ says_within (self.old.bytes + bytes_of (self.old.cutter.line, ended)) self.old.number
+            (self.old.cutter.line, ended) }
         ensures key { IfOk result (λ found. KeyIf found self.new.key self.new.count) }
         ensures moved { OnOk result (IsNext (bytes_of (self.old.cutter.line, ended)) self.old self.new) }
         ensures within { self.new.bytes ≤ 4294967296 }
@@ -223,7 +238,8 @@ impl DataReader {
     fn end(&mut self) -> Result<LineStory, DataFault>
         requires { self.old.fault ≡ None }
         ensures ok { IfOk result (λ comes. (comes ≡ story.End) × (reading_from self.old.number self.old.bytes [] ≡ nothing_read) × (self.new ≡ self.old)) }
-        ensures err { IfErr result (λ flaw. (reading_from self.old.number self.old.bytes [] ≡ only_fault flaw) × (self.new ≡ record self.old { fault = Some flaw })) }
+        ensures err { IfErr result (λ flaw. (reading_from self.old.number self.old.bytes [] ≡ only_fault flaw) ×
+            (self.new ≡ record self.old { fault = Some flaw })) }
         ensures line { IfErr result (λ flaw. NamesLine flaw self.old.number) }
         ensures names { IfErr result IsFileFault }
         ensures within { self.new.bytes ≤ 4294967296 }

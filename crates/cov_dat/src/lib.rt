@@ -18,8 +18,8 @@ mod pattern;
 mod read;
 mod record_list;
 mod record_step;
-mod shared;
 mod text_reader;
+mod threads;
 
 pub use data_reader::DataReader;
 pub use fault::DataFault;

@@ -1,4 +1,5 @@
-ghost use Rattle.std.specs.Prelude.{◌≡◌, ◌≤◌, ◌<◌, ◌+◌, ◌-◌, [], ◌++◌, true, None, Some, Ok, Err, length, take, drop, slice_range, vec_len, IfOk, IfErr, IfSome, IfNone, IsErrOf, OnOk, OnErr};
+ghost use Rattle.std.specs.Prelude.{◌≡◌, ◌≤◌, ◌<◌, ◌+◌, ◌-◌, [], ◌++◌, true, None, Some, Ok, Err, length, take, drop, slice_range};
+ghost use Rattle.std.specs.Prelude.{vec_len, IfOk, IfErr, IfSome, IfNone, IsErrOf, OnOk, OnErr};
 ghost use Rattle.cov_port.specs.Cutting.{FailedBy, GivesTold, IsGiven, KeepsLeft, begins_long, fresh_cutter, has_no_feed, left_of};
 ghost use Rattle.cov_port.specs.Files.{ReadsRose};
 ghost use Rattle.cov_port.specs.Filling.{Fills, IsFeedAt, step_of};
@@ -37,7 +38,11 @@ impl Model for LineCutter {
 
     ghost Value = { Cutter };
 
-    ghost view = { λ c. record { ahead = slice_range c.buffer.items c.start c.end; line = slice_range c.buffer.items c.line_start c.line_end; fault = c.fault } };
+    ghost view = { λ c. record {
+      ahead = slice_range c.buffer.items c.start c.end;
+      line = slice_range c.buffer.items c.line_start c.line_end;
+      fault = c.fault;
+    } };
 
     ghost invariant = { λ c. (vec_len c.buffer ≡ 65536)
         × (c.line_start ≤ c.line_end) × (c.line_end ≤ 65536)
@@ -74,7 +79,8 @@ impl LineCutter {
         ensures within { length self.new.ahead ≤ 65536 }
 
         // A line that is too long, of which nothing is taken off.
-        ensures long { IsErrOf result CutFault.TooLong → self.old.fault ≡ None → IfSome (left_of self.old (F.rest files.old)) (λ left. begins_long (lines_of left) ≡ true) }
+        ensures long { IsErrOf result CutFault.TooLong → self.old.fault ≡ None → IfSome (left_of self.old (F.rest files.old))
+            (λ left. begins_long (lines_of left) ≡ true) }
         ensures long_left { IsErrOf result CutFault.TooLong → KeepsLeft (left_of self.old (F.rest files.old)) (left_of self.new (F.rest files.new)) }
 
         // A fault is answered again by every later call, and then no call is made on the files.
@@ -109,7 +115,9 @@ impl LineCutter {
     fn seek<F: Files>(&mut self, files: &mut F) -> Result<Option<usize>, CutFault>
         ensures left { IfOk result (λ _. KeepsLeft (left_of self.old (F.rest files.old)) (left_of self.new (F.rest files.new))) }
         ensures feed { IfOk result (λ found. IfSome found (λ at. IsFeedAt self.new.ahead at)) }
-        ensures ends { IfOk result (λ found. IfNone found ((has_no_feed self.new.ahead ≡ true) × (length self.new.ahead < 65536) × IfSome (left_of self.old (F.rest files.old)) (λ left. left ≡ self.new.ahead))) }
+        ensures ends { IfOk result (λ found. IfNone found
+            ((has_no_feed self.new.ahead ≡ true) × (length self.new.ahead < 65536) × IfSome (left_of self.old (F.rest files.old))
+            (λ left. left ≡ self.new.ahead))) }
         ensures within { length self.new.ahead ≤ 65536 }
         ensures long { IsErrOf result CutFault.TooLong → (has_no_feed self.new.ahead ≡ true) × (length self.new.ahead ≡ 65536) }
         ensures long_left { IsErrOf result CutFault.TooLong → KeepsLeft (left_of self.old (F.rest files.old)) (left_of self.new (F.rest files.new)) }

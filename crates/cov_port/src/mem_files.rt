@@ -3,7 +3,8 @@ ghost use Rattle.std.specs.Option.{option_copied};
 ghost use Rattle.std.specs.Result.{is_err};
 ghost use Rattle.cov_port.specs.Causes.{HasCause};
 ghost use Rattle.cov_port.specs.Files.{HasOpenCause, ReadTakes, Stores, StoresPart, lacks};
-ghost use Rattle.cov_port.specs.Memory.{FilesInMemory, held_in, no_files, open_fails, read_count, read_fails, store_fails, with_failed_open, with_failed_read, with_failed_store, with_open, with_read, with_store};
+ghost use Rattle.cov_port.specs.Memory.{FilesInMemory, held_in, no_files, open_fails, read_count, read_fails, store_fails, with_failed_open, with_failed_read};
+ghost use Rattle.cov_port.specs.Memory.{with_failed_store, with_open, with_read, with_store};
 
 use crate::file_log::{append_file, find_file, reserve_room};
 use crate::files::{FileFault, Files};

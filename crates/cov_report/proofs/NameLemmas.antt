@@ -51,7 +51,8 @@ pub base_from : (name : List ℕ) (from : ℕ) → from ≤ length name → ((k 
     → slice_index name (from - 1) ≡ 47)
     → drop from name ≡ base_name name
 base_from name from within passed stop =
-    let suffix = suffix_len_is (λ (x : ℕ). not (x == 47)) name from 0 within (λ k a b. ap not (passed k a b)) (λ some. ap (λ (n : ℕ). not (n == 47)) (stop some)) in
+    let suffix =
+    suffix_len_is (λ (x : ℕ). not (x == 47)) name from 0 within (λ k a b. ap not (passed k a b)) (λ some. ap (λ (n : ℕ). not (n == 47)) (stop some)) in
     ap (λ (n : ℕ). drop n name) {x = from} {y = length name - suffix_len (λ (x : ℕ). not (x == 47)) name} (omega (arith, suffix))
 
 module _ (names : List (List ℕ)) (k : ℕ) (d : List ℕ) (within : k < length names) where

@@ -68,7 +68,8 @@ pub report_stands : (r v : ReportValue) (tables ts : List FileTable) (names : Li
     → IsReportOf r tables names places → ts ≡ tables → ps ≡ places
     → file < length (files_annotated v) → StandsAt ts (get_or ps file 0) (get_or (files_annotated v) file []) × (seen_tables ts ≡ tables_of (ordered v))
 report_stands r v tables ts names places ps file e is t p within =
-    let w : file < length names = subst (λ (ns : List (List ℕ)). file < length ns) (sym is.named) (subst (λ (x : ReportValue). file < length (files_annotated x)) (sym e) within) in (
+    let w : file < length names =
+    subst (λ (ns : List (List ℕ)). file < length ns) (sym is.named) (subst (λ (x : ReportValue). file < length (files_annotated x)) (sym e) within) in (
       subst (λ (x : ReportValue). StandsAt ts (get_or ps file 0) (get_or (files_annotated x) file [])) e
           (subst (λ (xs : List FileTable). StandsAt xs (get_or ps file 0) (get_or (files_annotated r) file [])) (sym t)
           (subst (λ (xs : List ℕ). StandsAt tables (get_or xs file 0) (get_or (files_annotated r) file [])) (sym p)

@@ -21,9 +21,12 @@ pub(crate) fn annotate_file(
     source: &[u8],
 ) -> Result<ByteText, ReportFault>
     requires { place < length tables.now }
-    ensures text { (counts : Counts) (file : List ℕ) → seen_tables tables.now ≡ tables_of counts → StandsAt tables.now place file → IfOk result (λ text. text ≡ annotated_text (options_of options.now) counts file source.now) }
-    ensures long { (counts : Counts) (file : List ℕ) → seen_tables tables.now ≡ tables_of counts → StandsAt tables.now place file → OnOk result (short_of counts file source.now ≡ None) }
-    ensures fault { (counts : Counts) (file : List ℕ) → seen_tables tables.now ≡ tables_of counts → StandsAt tables.now place file → IfErr result (TellsFault (option_map ShortSource (short_of counts file source.now))) }
+    ensures text { (counts : Counts) (file : List ℕ) → seen_tables tables.now ≡ tables_of counts → StandsAt tables.now place file
+        → IfOk result (λ text. text ≡ annotated_text (options_of options.now) counts file source.now) }
+    ensures long { (counts : Counts) (file : List ℕ) → seen_tables tables.now ≡ tables_of counts → StandsAt tables.now place file
+        → OnOk result (short_of counts file source.now ≡ None) }
+    ensures fault { (counts : Counts) (file : List ℕ) → seen_tables tables.now ≡ tables_of counts → StandsAt tables.now place file
+        → IfErr result (TellsFault (option_map ShortSource (short_of counts file source.now))) }
 {
     annotate_table(alloc, &tables[place], options, source)
 }
@@ -35,9 +38,11 @@ fn annotate_table(
     options: &ReportOptions,
     source: &[u8],
 ) -> Result<ByteText, ReportFault>
-    ensures text { (counts : Counts) (file : List ℕ) → seen_table table.now ≡ table_of counts file → IfOk result (λ text. text ≡ annotated_text (options_of options.now) counts file source.now) }
+    ensures text { (counts : Counts) (file : List ℕ) → seen_table table.now ≡ table_of counts file
+        → IfOk result (λ text. text ≡ annotated_text (options_of options.now) counts file source.now) }
     ensures long { (counts : Counts) (file : List ℕ) → seen_table table.now ≡ table_of counts file → OnOk result (short_of counts file source.now ≡ None) }
-    ensures fault { (counts : Counts) (file : List ℕ) → seen_table table.now ≡ table_of counts file → IfErr result (TellsFault (option_map ShortSource (short_of counts file source.now))) }
+    ensures fault { (counts : Counts) (file : List ℕ) → seen_table table.now ≡ table_of counts file
+        → IfErr result (TellsFault (option_map ShortSource (short_of counts file source.now))) }
 {
     if let Some(lines) = short_source(table, source) {
         return Err(ReportFault::ShortSource { lines });

@@ -19,7 +19,8 @@ pub(crate) fn choose(
     options: &ReportOptions,
 ) -> Result<Chosen, NoMemory>
     ensures names { IfOk result (λ chosen. chosen.names ≡ map (λ t. t.name) (filter (is_chosen options.now.all options.now.min) (seen_tables tables.now))) }
-    ensures places { IfOk result (λ chosen. (i : ℕ) → i < length chosen.names → StandsAt tables.now (get_or chosen.places.items i 0) (get_or chosen.names i [])) }
+    ensures places { IfOk result (λ chosen. (i : ℕ) → i < length chosen.names → StandsAt tables.now (get_or chosen.places.items i 0)
+        (get_or chosen.names i [])) }
     ensures len { IfOk result (λ chosen. length chosen.places.items ≡ length chosen.names) }
 {
     let mut names = Rows::new(alloc);

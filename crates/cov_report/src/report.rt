@@ -77,9 +77,11 @@ impl<'a> Report<'a> {
     /// `ShortSource` tells how many lines the source has, where it ends before a line that has items.
     pub fn annotate(&self, alloc: Global, file: u32, source: &[u8]) -> Result<ByteText, ReportFault>
         requires { file < length (files_annotated self.now) }
-        ensures text { IfOk result (λ text. text ≡ annotated_text (text_options self.now) (ordered self.now) (get_or (files_annotated self.now) file []) source.now) }
+        ensures text { IfOk result (λ text. text ≡ annotated_text (text_options self.now) (ordered self.now) (get_or (files_annotated self.now) file [])
+            source.now) }
         ensures long { OnOk result (short_of (ordered self.now) (get_or (files_annotated self.now) file []) source.now ≡ None) }
-        ensures fault { IfErr result (TellsFault (option_map ShortSource (short_of (ordered self.now) (get_or (files_annotated self.now) file []) source.now))) }
+        ensures fault { IfErr result (TellsFault
+            (option_map ShortSource (short_of (ordered self.now) (get_or (files_annotated self.now) file []) source.now))) }
     {
         let places = self.places.as_slice();
         let place = places[file as usize];

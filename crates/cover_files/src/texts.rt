@@ -29,7 +29,8 @@ pub(crate) fn made_texts<F: Files>(
     requires few { length names.now ≤ most files_limit }
     requires names { map (λ name. name.now) names.now ≡ (seen_cover asked.now).files }
     ensures ok { IfOk result (λ made. IfSome (F.held files.old) (λ held. IsCoverAnswer held (seen_cover asked.now) (done made.0 made.1.items))) }
-    ensures stores { IfOk result (λ made. (name : List ℕ) → Contains (map (λ (s : List ℕ × List ℕ). s.0) made.1.items) name → MayStore (seen_cover asked.now) name) }
+    ensures stores { IfOk result (λ made. (name : List ℕ) → Contains (map (λ (s : List ℕ × List ℕ). s.0) made.1.items) name → MayStore (seen_cover asked.now)
+        name) }
     ensures ok_quiet { OnOk result (F.faults files.new ≡ F.faults files.old) }
     ensures err { IfErr result (Stops (cover_promise (seen_cover asked.now)) (F.held files.old) (F.faults files.old) (F.faults files.new)) }
     ensures sparing { IfErr result (λ ending. IfSome (F.held files.old) (CoverSpares (seen_cover asked.now) (status_at ending) (F.rest files.new))) }

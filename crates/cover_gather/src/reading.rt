@@ -45,10 +45,13 @@ fn add_open<F: Files>(
 ) -> Result<(), Ending>
     requires opened { IsOpened (F.held files.old) name.now (F.rest files.old) }
     requires line { line ≡ spec.read_line name.now }
-    ensures ok { OnOk result (IfSome (F.held files.old) (λ held. continued ranks tally.old (file_arrivals (keeps (option_copied filter.entry)) name.now (held name.now)) ≡ Ok tally.new)) }
+    ensures ok { OnOk result (IfSome (F.held files.old)
+        (λ held. continued ranks tally.old (file_arrivals (keeps (option_copied filter.entry)) name.now (held name.now)) ≡ Ok tally.new)) }
     ensures ok_quiet { OnOk result (F.faults files.new ≡ F.faults files.old) }
-    ensures err { IfErr result (Stops (file_promise (keeps (option_copied filter.entry)) ranks tally.old name.now) (F.held files.old) (F.faults files.old) (F.faults files.new)) }
-    ensures sparing { IfErr result (λ ending. status_at ending ≡ BadData → IfSome (F.rest files.old) (λ text. TakesFew name.now text (line_at ending) (F.rest files.new))) }
+    ensures err { IfErr result (Stops (file_promise (keeps (option_copied filter.entry)) ranks tally.old name.now) (F.held files.old) (F.faults files.old)
+        (F.faults files.new)) }
+    ensures sparing { IfErr result
+        (λ ending. status_at ending ≡ BadData → IfSome (F.rest files.old) (λ text. TakesFew name.now text (line_at ending) (F.rest files.new))) }
     ensures held { F.held files.new ≡ F.held files.old }
 {
     let mut reader = match DataReader::new(alloc) {
@@ -79,10 +82,13 @@ fn add_file<F: Files>(
     ranks: bool,
     tally: &mut Tally,
 ) -> Result<(), Ending>
-    ensures ok { OnOk result (IfSome (F.held files.old) (λ held. continued ranks tally.old (file_arrivals (keeps (option_copied filter.entry)) name.now (held name.now)) ≡ Ok tally.new)) }
+    ensures ok { OnOk result (IfSome (F.held files.old)
+        (λ held. continued ranks tally.old (file_arrivals (keeps (option_copied filter.entry)) name.now (held name.now)) ≡ Ok tally.new)) }
     ensures ok_quiet { OnOk result (F.faults files.new ≡ F.faults files.old) }
-    ensures err { IfErr result (Stops (file_promise (keeps (option_copied filter.entry)) ranks tally.old name.now) (F.held files.old) (F.faults files.old) (F.faults files.new)) }
-    ensures sparing { IfErr result (λ ending. status_at ending ≡ BadData → IfSome (F.held files.old) (TakesFewAt name.now (line_at ending) (F.rest files.new))) }
+    ensures err { IfErr result (Stops (file_promise (keeps (option_copied filter.entry)) ranks tally.old name.now) (F.held files.old) (F.faults files.old)
+        (F.faults files.new)) }
+    ensures sparing { IfErr result
+        (λ ending. status_at ending ≡ BadData → IfSome (F.held files.old) (TakesFewAt name.now (line_at ending) (F.rest files.new))) }
     ensures held { F.held files.new ≡ F.held files.old }
 {
     match open_input(alloc, files, name) {
@@ -100,10 +106,13 @@ pub(crate) fn add_files<F: Files>(
     ranks: bool,
     tally: &mut Tally,
 ) -> Result<(), Ending>
-    ensures ok { OnOk result (IfSome (F.held files.old) (λ held. continued ranks tally.old (all_arrivals held (keeps (option_copied filter.entry)) (map (λ name. name.now) names.now)) ≡ Ok tally.new)) }
+    ensures ok { OnOk result (IfSome (F.held files.old)
+        (λ held. continued ranks tally.old (all_arrivals held (keeps (option_copied filter.entry)) (map (λ name. name.now) names.now)) ≡ Ok tally.new)) }
     ensures ok_quiet { OnOk result (F.faults files.new ≡ F.faults files.old) }
-    ensures err { IfErr result (Stops (files_promise (keeps (option_copied filter.entry)) ranks tally.old (map (λ name. name.now) names.now)) (F.held files.old) (F.faults files.old) (F.faults files.new)) }
-    ensures sparing { IfErr result (λ ending. IsSparing (map (λ name. name.now) names.now) (status_at ending) (line_at ending) (F.rest files.new) (F.held files.old)) }
+    ensures err { IfErr result (Stops (files_promise (keeps (option_copied filter.entry)) ranks tally.old (map (λ name. name.now) names.now)) (F.held files.old)
+        (F.faults files.old) (F.faults files.new)) }
+    ensures sparing { IfErr result
+        (λ ending. IsSparing (map (λ name. name.now) names.now) (status_at ending) (line_at ending) (F.rest files.new) (F.held files.old)) }
     ensures held { F.held files.new ≡ F.held files.old }
 {
     'names: for name in names {

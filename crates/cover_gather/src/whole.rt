@@ -28,10 +28,13 @@ pub fn gather<F: Files>(
     ensures ok { IfOk result (λ all. IfSome (F.held files.old) (λ held.
         IsGatheredTo ranks (all_arrivals held (keeps (option_copied filter.entry)) (map (λ name. name.now) names.now)) all.merged all.covers)) }
     ensures ok_quiet { OnOk result (F.faults files.new ≡ F.faults files.old) }
-    ensures err { IfErr result (Stops (gather_promise ranks (option_copied filter.entry) (map (λ name. name.now) names.now)) (F.held files.old) (F.faults files.old) (F.faults files.new)) }
+    ensures err { IfErr result (Stops (gather_promise ranks (option_copied filter.entry) (map (λ name. name.now) names.now)) (F.held files.old)
+        (F.faults files.old)
+        (F.faults files.new)) }
 
     // Of a file that is refused at a line no more is taken than the lines before it and one buffer.
-    ensures sparing { IfErr result (λ ending. IsSparing (map (λ name. name.now) names.now) (status_at ending) (line_at ending) (F.rest files.new) (F.held files.old)) }
+    ensures sparing { IfErr result
+        (λ ending. IsSparing (map (λ name. name.now) names.now) (status_at ending) (line_at ending) (F.rest files.new) (F.held files.old)) }
     ensures held { F.held files.new ≡ F.held files.old }
 {
     adding_gives_the_sums();

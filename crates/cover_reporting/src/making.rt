@@ -33,12 +33,15 @@ pub fn reports<F: Files>(
     merged: &Merged,
 ) -> Result<(ByteText, Vec<Store>), Ending>
     ensures total { IfOk result (λ made. made.0 ≡ total_for (seen_cover asked.now) (in_key_order merged.now)) }
-    ensures stores { IfOk result (λ made. IfSome (F.held files.old) (λ held. made.1.items ≡ cover_stores held (seen_cover asked.now) (in_key_order merged.now))) }
+    ensures stores { IfOk result (λ made. IfSome (F.held files.old)
+        (λ held. made.1.items ≡ cover_stores held (seen_cover asked.now) (in_key_order merged.now))) }
     // Also where files tell no contents.
-    ensures names { IfOk result (λ made. (name : List ℕ) → Contains (map (λ (s : List ℕ × List ℕ). s.0) made.1.items) name → MayStore (seen_cover asked.now) name) }
+    ensures names { IfOk result (λ made. (name : List ℕ) → Contains (map (λ (s : List ℕ × List ℕ). s.0) made.1.items) name → MayStore (seen_cover asked.now)
+        name) }
     ensures sound { OnOk result (IfSome (F.held files.old) (λ held. report_refusal held (seen_cover asked.now) (in_key_order merged.now) ≡ None)) }
     ensures ok_quiet { OnOk result (F.faults files.new ≡ F.faults files.old) }
-    ensures err { IfErr result (Stops (reports_promise (seen_cover asked.now) (in_key_order merged.now)) (F.held files.old) (F.faults files.old) (F.faults files.new)) }
+    ensures err { IfErr result (Stops (reports_promise (seen_cover asked.now) (in_key_order merged.now)) (F.held files.old) (F.faults files.old)
+        (F.faults files.new)) }
     ensures held { F.held files.new ≡ F.held files.old }
 {
     let mut stores = Vec::new(alloc);
@@ -60,11 +63,14 @@ fn add_reports<F: Files>(
     stores: &mut Vec<Store>,
 ) -> Result<ByteText, Ending>
     ensures total { IfOk result (λ total. total ≡ total_for (seen_cover asked.now) (in_key_order merged.now)) }
-    ensures stores { OnOk result (IfSome (F.held files.old) (λ held. stores.new.items ≡ stores_behind held (seen_cover asked.now) (in_key_order merged.now) stores.old.items)) }
-    ensures names { OnOk result (All (MayStore (seen_cover asked.now)) (names_in stores.old.items) → All (MayStore (seen_cover asked.now)) (names_in stores.new.items)) }
+    ensures stores { OnOk result (IfSome (F.held files.old)
+        (λ held. stores.new.items ≡ stores_behind held (seen_cover asked.now) (in_key_order merged.now) stores.old.items)) }
+    ensures names { OnOk result (All (MayStore (seen_cover asked.now)) (names_in stores.old.items) → All (MayStore (seen_cover asked.now))
+        (names_in stores.new.items)) }
     ensures sound { OnOk result (IfSome (F.held files.old) (λ held. report_refusal held (seen_cover asked.now) (in_key_order merged.now) ≡ None)) }
     ensures ok_quiet { OnOk result (F.faults files.new ≡ F.faults files.old) }
-    ensures err { IfErr result (Stops (reports_promise (seen_cover asked.now) (in_key_order merged.now)) (F.held files.old) (F.faults files.old) (F.faults files.new)) }
+    ensures err { IfErr result (Stops (reports_promise (seen_cover asked.now) (in_key_order merged.now)) (F.held files.old) (F.faults files.old)
+        (F.faults files.new)) }
     ensures held { F.held files.new ≡ F.held files.old }
 {
     if !looks_at_lines(asked) {
@@ -88,11 +94,15 @@ fn add_prepared<F: Files>(
     requires options { report.now.options ≡ options_for (seen_cover asked.now) }
     requires names { bad_file_name (sources_of (seen_cover asked.now) (ordered report.now)) ≡ None }
     ensures total { IfOk result (λ total. total ≡ total_for (seen_cover asked.now) (ordered report.now)) }
-    ensures stores { OnOk result (IfSome (F.held files.old) (λ held. stores.new.items ≡ stores_behind held (seen_cover asked.now) (ordered report.now) stores.old.items)) }
-    ensures names { OnOk result (All (MayStore (seen_cover asked.now)) (names_in stores.old.items) → All (MayStore (seen_cover asked.now)) (names_in stores.new.items)) }
-    ensures sound { OnOk result (IfSome (F.held files.old) (λ held. refused_from held (ordered report.now) (most SourceBytes) (sources_of (seen_cover asked.now) (ordered report.now)) ≡ None)) }
+    ensures stores { OnOk result (IfSome (F.held files.old)
+        (λ held. stores.new.items ≡ stores_behind held (seen_cover asked.now) (ordered report.now) stores.old.items)) }
+    ensures names { OnOk result (All (MayStore (seen_cover asked.now)) (names_in stores.old.items) → All (MayStore (seen_cover asked.now))
+        (names_in stores.new.items)) }
+    ensures sound { OnOk result (IfSome (F.held files.old)
+        (λ held. refused_from held (ordered report.now) (most SourceBytes) (sources_of (seen_cover asked.now) (ordered report.now)) ≡ None)) }
     ensures ok_quiet { OnOk result (F.faults files.new ≡ F.faults files.old) }
-    ensures err { IfErr result (Stops (sources_promise (ordered report.now) (most SourceBytes) (sources_of (seen_cover asked.now) (ordered report.now))) (F.held files.old) (F.faults files.old) (F.faults files.new)) }
+    ensures err { IfErr result (Stops (sources_promise (ordered report.now) (most SourceBytes) (sources_of (seen_cover asked.now) (ordered report.now)))
+        (F.held files.old) (F.faults files.old) (F.faults files.new)) }
     ensures held { F.held files.new ≡ F.held files.old }
 {
     match add_texts(alloc, asked, report, stores) {

@@ -14,7 +14,9 @@ base_from : (name : List ℕ) (from : ℕ) → from ≤ length name → ((k : �
     → get_or name (from - 1) 0 ≡ 47)
     → drop from name ≡ base_name name
 base_from name from within passed stop =
-    let suffix = suffix_len_is (λ (x : ℕ). not (x == 47)) name from 0 within (λ k a b. other (get_or name k 0) (passed k a b)) (λ some. ap (λ (n : ℕ). not (n == 47)) (stop some)) in
+    let suffix =
+    suffix_len_is (λ (x : ℕ). not (x == 47)) name from 0 within (λ k a b. other (get_or name k 0) (passed k a b))
+    (λ some. ap (λ (n : ℕ). not (n == 47)) (stop some)) in
     ap (λ (n : ℕ). drop n name) {x = from} {y = length name - suffix_len (λ (x : ℕ). not (x == 47)) name} (omega (arith, suffix))
 
 -- behind the last `/`

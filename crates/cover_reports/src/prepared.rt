@@ -21,7 +21,8 @@ pub fn prepare_report<'a>(
     options: &'a ReportOptions,
 ) -> Result<Report<'a>, Ending>
     ensures report { IfOk result (λ r. (r.counts ≡ merged.now) × (r.options ≡ options.now)) }
-    ensures sound { OnOk result (first_reason (count_reasons (entries (count_map merged.now)) (files_for options.now (entries (count_map merged.now)))) ≡ None) }
+    ensures sound { OnOk result (first_reason (count_reasons (entries (count_map merged.now)) (files_for options.now (entries (count_map merged.now)))) ≡
+        None) }
     ensures names { OnOk result (bad_file_name (files_for options.now (entries (count_map merged.now))) ≡ None) }
     ensures refused { IfErr result (IsRefusal (λ a.
         first_reason (count_reasons (entries (count_map merged.now)) (files_for options.now (entries (count_map merged.now)))) ≡ Some a)) }

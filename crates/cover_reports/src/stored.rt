@@ -53,7 +53,8 @@ fn add_store<F: Files>(
     ensures ok { IfOk result (λ rest. IfSome (F.held files.old) (λ held.
         IsStored held (text_options report.now) (ordered report.now) folder.now (get_or (files_annotated report.now) file [])
         left stores.old.items stores.new.items rest)) }
-    ensures names { OnOk result (names_in stores.new.items ≡ names_in stores.old.items ++ name_of folder.now (get_or (files_annotated report.now) file []) ∷ []) }
+    ensures names { OnOk result (names_in stores.new.items ≡ names_in stores.old.items ++ name_of folder.now (get_or (files_annotated report.now) file []) ∷
+        []) }
     ensures within { IfOk result (λ rest. rest ≤ left) }
     ensures ok_quiet { OnOk result (F.faults files.new ≡ F.faults files.old) }
     ensures err { IfErr result (Stops (annotating_promise (ordered report.now) left (get_or (files_annotated report.now) file []))

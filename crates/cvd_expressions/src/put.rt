@@ -19,7 +19,9 @@ pub(crate) fn put(
     stack: &mut Items<Built>,
     vars: &[Var],
 ) -> Result<Option<Built>, AllocError>
-    ensures { IfOk result (λ held. (d : Design) (us : List Typed) → d.vars ≡ vars.now → AllBuilt d stack.old → push node (tops stack.old) ≡ Some us → Puts d held stack.new us) }
+    ensures { IfOk result (λ held. (d : Design) (us : List Typed) → d.vars ≡ vars.now → AllBuilt d stack.old → push node (tops stack.old) ≡ Some us → Puts d
+        held
+        stack.new us) }
 {
     let operands = arity(node);
     if operands == 0 {
@@ -57,7 +59,9 @@ fn put_one(
     vars: &[Var],
 ) -> Result<Option<Built>, AllocError>
     requires { arity node ≡ 1 }
-    ensures { IfOk result (λ held. (d : Design) (us : List Typed) → d.vars ≡ vars.now → AllBuilt d stack.old → push node (tops stack.old) ≡ Some us → Puts d held stack.new us) }
+    ensures { IfOk result (λ held. (d : Design) (us : List Typed) → d.vars ≡ vars.now → AllBuilt d stack.old → push node (tops stack.old) ≡ Some us → Puts d
+        held
+        stack.new us) }
 {
     let Some(first) = stack.pop() else {
         return Ok(None);
@@ -140,7 +144,8 @@ fn one(alloc: Global, node: Node, of: Built, vars: &[Var]) -> Result<Option<Buil
 }
 
 fn two(alloc: Global, node: Node, first: Built, second: Built) -> Result<Option<Built>, AllocError>
-    ensures { IfOk result (λ held. (d : Design) (t : Typed) → IsBuilt d first → IsBuilt d second → push node (first.tree ∷ second.tree ∷ []) ≡ Some (t ∷ []) → Builds d t held) }
+    ensures { IfOk result (λ held. (d : Design) (t : Typed) → IsBuilt d first → IsBuilt d second → push node (first.tree ∷ second.tree ∷ []) ≡ Some (t ∷ []) →
+        Builds d t held) }
 {
     match node {
         Node::Part { width, low, signed } => part(alloc, width, low, signed, first, second),
@@ -157,7 +162,8 @@ fn three(
     second: Built,
     third: Built,
 ) -> Result<Option<Built>, AllocError>
-    ensures { IfOk result (λ held. (d : Design) (t : Typed) → IsBuilt d first → IsBuilt d second → IsBuilt d third → push node (first.tree ∷ second.tree ∷ third.tree ∷ []) ≡ Some (t ∷ []) → Builds d t held) }
+    ensures { IfOk result (λ held. (d : Design) (t : Typed) → IsBuilt d first → IsBuilt d second → IsBuilt d third → push node
+        (first.tree ∷ second.tree ∷ third.tree ∷ []) ≡ Some (t ∷ []) → Builds d t held) }
 {
     match node {
         Node::Choose => choice(alloc, first, second, third),

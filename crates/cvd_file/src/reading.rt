@@ -53,7 +53,8 @@ fn test_first_line(text: &[u8], cursor: &Cursor<'_>) -> Result<(), CvdFault>
 
 /// The fault of a text of so many bytes, of which a reader of its pieces stops in the line that begins there.
 fn fault_there(fault: ReadFault, place: usize, size: usize) -> CvdFault
-    ensures { (text : List ℕ) (old new : Reading) → has_first_line text ≡ true → old.text ≡ text → old.rest ≡ pieces_of text → length text ≡ size → Halts design_marks old fault new → IsLineStart new place → IsDecodeFault text result }
+    ensures { (text : List ℕ) (old new : Reading) → has_first_line text ≡ true → old.text ≡ text → old.rest ≡ pieces_of text
+        → length text ≡ size → Halts design_marks old fault new → IsLineStart new place → IsDecodeFault text result }
 {
     match fault {
         ReadFault::NoMemory => CvdFault::NoMemory,

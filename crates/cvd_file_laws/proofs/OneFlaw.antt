@@ -203,7 +203,8 @@ module _ (FlowFault : Type 0) (IsFlowFault : Design → FlowFault → Type 0) wh
     two_wrong : (given other : List Piece) (p q : Piece) (m n : Mark) (v : IsWrong ps given p m) (w : IsWrong ps other q n) → EndsFirst given p m
         → EndsFirst other q n → flaw p m (line_start text given) ≡ flaw q n (line_start text other)
     two_wrong given other p q m n v w f g =
-        let rests = one_place fits Instrumented design_marks apart_design ps m n (p ∷ v.rest) (q ∷ w.rest) (to_wrong ps given p m v) (to_wrong ps other q n w) in
+        let rests =
+        one_place fits Instrumented design_marks apart_design ps m n (p ∷ v.rest) (q ∷ w.rest) (to_wrong ps given p m v) (to_wrong ps other q n w) in
         let piece : p ≡ q = ap (head_or p) rests in
         let givens = same_given given other (p ∷ v.rest) (sym v.split ∙ w.split ∙ ap (λ l. other ++ l) (sym rests)) in
         moved other q givens piece w.awaits g

@@ -145,7 +145,9 @@ pub lines_front : (before : Load) (ls : List Line) (gs rest : List Piece) (text 
 lines_front before [] [] rest text clean fit e = record { tail = text; split = refl; pieces = e }
 lines_front before [] (g ∷ gs) rest text clean fit e = absurd (true≢false (sym fit))
 lines_front before (l ∷ ls) gs rest text clean fit e =
-    let b = line_front (stands before l) (marks_of (added before l.load) ls) rest l.tokens gs text (first_true (is_line l.tokens) (lines_clean ls) clean) fit e in
+    let b =
+    line_front (stands before l) (marks_of (added before l.load) ls) rest l.tokens gs text (first_true (is_line l.tokens) (lines_clean ls) clean) fit e
+    in
     let later = lines_front (added before l.load) ls b.given rest b.tail (second_true (is_line l.tokens) (lines_clean ls) clean) b.fit b.pieces in
     record {
       tail = later.tail;

@@ -69,7 +69,10 @@ fn read_input<'a>(
     may_stand: bool,
 ) -> Result<Input, ReadFault>
     requires { length vars.now ≤ 2 ^ 32 }
-    ensures { (all : ℕ) (before : List Input) → AreSeen vars.now before last names.old → may_stand ≡ (nat_lt (length before + 1) all || (length before + 1) == length (input_numbers vars.now)) → Reads (λ i. row_marks (input_line (design_of vars.now [] []) all before i)) (λ i held. (held ≡ i) × AreSeen vars.now (before ++ i ∷ []) (Some i.var) names.new) cursor.old result cursor.new }
+    ensures { (all : ℕ) (before : List Input) → AreSeen vars.now before last names.old
+        → may_stand ≡ (nat_lt (length before + 1) all || (length before + 1) == length (input_numbers vars.now))
+        → Reads (λ i. row_marks (input_line (design_of vars.now [] []) all before i))
+        (λ i held. (held ≡ i) × AreSeen vars.now (before ++ i ∷ []) (Some i.var) names.new) cursor.old result cursor.new }
 {
     let var = number32(cursor)?;
     let name = read_name(cursor)?;
@@ -90,7 +93,10 @@ fn input_of<'a>(
     name: &'a [u8],
 ) -> Option<u32>
     requires { length vars.now ≤ 2 ^ 32 }
-    ensures { (all : ℕ) (before : List Input) (i : Input) → AreSeen vars.now before last names.now → may_stand ≡ (nat_lt (length before + 1) all || (length before + 1) == length (input_numbers vars.now)) → var ≡ below (2 ^ 32) i.var → name.now ≡ i.name → Judges (may_be_input vars.now all before) (λ j held. held ≡ j.var) i result }
+    ensures { (all : ℕ) (before : List Input) (i : Input) → AreSeen vars.now before last names.now
+        → may_stand ≡ (nat_lt (length before + 1) all || (length before + 1) == length (input_numbers vars.now))
+        → var ≡ below (2 ^ 32) i.var → name.now ≡ i.name
+        → Judges (may_be_input vars.now all before) (λ j held. held ≡ j.var) i result }
 {
     let Some(var) = var else {
         return None;

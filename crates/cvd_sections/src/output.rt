@@ -39,7 +39,8 @@ pub fn read_outputs(
 
 fn read_output(cursor: &mut Cursor<'_>, vars: &[Var], last: Option<u32>) -> Result<u32, ReadFault>
     requires { length vars.now ≤ 2 ^ 32 }
-    ensures { (before : List ℕ) → IsLastOf nat_lt (λ v. v) before last → Reads (λ v. row_marks (output_line (design_of vars.now [] []) before v)) (λ v held. held ≡ v) cursor.old result cursor.new }
+    ensures { (before : List ℕ) → IsLastOf nat_lt (λ v. v) before last
+        → Reads (λ v. row_marks (output_line (design_of vars.now [] []) before v)) (λ v held. held ≡ v) cursor.old result cursor.new }
 {
     let var = number32(cursor)?;
     let found = output_of(vars, last, var);
@@ -49,7 +50,8 @@ fn read_output(cursor: &mut Cursor<'_>, vars: &[Var], last: Option<u32>) -> Resu
 /// A variable of one word, which comes behind the last one.
 fn output_of(vars: &[Var], last: Option<u32>, var: Option<u32>) -> Option<u32>
     requires { length vars.now ≤ 2 ^ 32 }
-    ensures { (before : List ℕ) (v : ℕ) → IsLastOf nat_lt (λ u. u) before last → var ≡ below (2 ^ 32) v → Judges (λ w. (output_line (design_of vars.now [] []) before w).holds) (λ w held. held ≡ w) v result }
+    ensures { (before : List ℕ) (v : ℕ) → IsLastOf nat_lt (λ u. u) before last → var ≡ below (2 ^ 32) v
+        → Judges (λ w. (output_line (design_of vars.now [] []) before w).holds) (λ w held. held ≡ w) v result }
 {
     let Some(var) = var else {
         return None;

@@ -80,7 +80,8 @@ fn read_point(
     last: Option<&[u8]>,
 ) -> Result<PointRow, ReadFault>
     requires { AreCut cursor.old.rest }
-    ensures { (before : List PointRow) → IsLastOf is_below (λ p. p.key) before (option_copied last.entry) → ReadsLines (λ p. row_marks (point_line counters before p)) (λ p held. held ≡ p) cursor.old result cursor.new }
+    ensures { (before : List PointRow) → IsLastOf is_below (λ p. p.key) before (option_copied last.entry)
+        → ReadsLines (λ p. row_marks (point_line counters before p)) (λ p held. held ≡ p) cursor.old result cursor.new }
 {
     let sides = read_sides(alloc, cursor, counters)?;
     let key = read_key(alloc, cursor)?;
@@ -98,7 +99,9 @@ fn read_sides(alloc: Global, cursor: &mut Cursor<'_>, counters: u32) -> Result<S
 
 /// A point with counters of the design, whose key is one, isn't too long, and comes behind the last one.
 fn point_of(sides: Sides, key: ByteText, counters: u32, last: Option<&[u8]>) -> Option<PointRow>
-    ensures { (before : List PointRow) (p : PointRow) → IsLastOf is_below (λ q. q.key) before (option_copied last.entry) → HoldsSides counters (p.plus, p.minus) sides → key ≡ p.key → Judges (λ q. (point_line counters before q).holds) (λ q held. held ≡ q) p result }
+    ensures { (before : List PointRow) (p : PointRow) → IsLastOf is_below (λ q. q.key) before (option_copied last.entry)
+        → HoldsSides counters (p.plus, p.minus) sides → key ≡ p.key
+        → Judges (λ q. (point_line counters before q).holds) (λ q held. held ≡ q) p result }
 {
     let (plus, minus) = sides;
     let (Some(plus), Some(minus)) = (plus, minus) else {

@@ -51,7 +51,8 @@ fn read_toggle(
     last: Option<ToggleEntry>,
 ) -> Result<ToggleEntry, ReadFault>
     requires { length vars.now ≤ 2 ^ 32 }
-    ensures { (before : List ToggleEntry) → IsLastOf is_below toggle_place before (option_map toggle_place last) → Reads (λ t. row_marks (toggle_line (design_of vars.now [] []) counters before t)) (λ t held. held ≡ t) cursor.old result cursor.new }
+    ensures { (before : List ToggleEntry) → IsLastOf is_below toggle_place before (option_map toggle_place last)
+        → Reads (λ t. row_marks (toggle_line (design_of vars.now [] []) counters before t)) (λ t held. held ≡ t) cursor.old result cursor.new }
 {
     let fields = toggle_fields(cursor)?;
     let found = toggle_of(vars, counters, last, fields);
@@ -75,7 +76,9 @@ fn toggle_of(
     fields: (Two, Two),
 ) -> Option<ToggleEntry>
     requires { length vars.now ≤ 2 ^ 32 }
-    ensures { (before : List ToggleEntry) (t : ToggleEntry) → IsLastOf is_below toggle_place before (option_map toggle_place last) → HoldsToggle t fields → Judges (λ u. (toggle_line (design_of vars.now [] []) counters before u).holds) (λ u held. held ≡ u) t result }
+    ensures { (before : List ToggleEntry) (t : ToggleEntry)
+        → IsLastOf is_below toggle_place before (option_map toggle_place last) → HoldsToggle t fields
+        → Judges (λ u. (toggle_line (design_of vars.now [] []) counters before u).holds) (λ u held. held ≡ u) t result }
 {
     let (place, (bit, counter)) = fields;
     let Some((var, word, bit)) = bit_of(vars, place, bit) else {
@@ -102,7 +105,8 @@ fn toggle_of(
 /// The variable, the word and the bit, where the variable has it.
 fn bit_of(vars: &[Var], place: Two, bit: Option<u32>) -> Option<(u32, u32, u8)>
     requires { length vars.now ≤ 2 ^ 32 }
-    ensures { (d : Design) (t : ToggleEntry) → d.vars ≡ vars.now → HoldsTwo (t.var, t.word) place → bit ≡ below (2 ^ 32) t.bit → Judges (has_bit d) HoldsPlace t result }
+    ensures { (d : Design) (t : ToggleEntry) → d.vars ≡ vars.now → HoldsTwo (t.var, t.word) place → bit ≡ below (2 ^ 32) t.bit
+        → Judges (has_bit d) HoldsPlace t result }
 {
     let (var, word) = place;
     let Some(var) = var else {

@@ -73,7 +73,8 @@ fn start_and_kind(cursor: &mut Cursor<'_>) -> Result<(Option<u128>, VarKind), Re
 /// A variable whose numbers go together, where there is room for it.
 fn var_of(size: Two, rest: (Option<u128>, VarKind), bits: u32) -> Option<(Var, u32)>
     requires { bits ≤ 16777216 }
-    ensures { (v : Var) → HoldsTwo (v.width, v.words) size → HoldsRest (v.start, v.kind) rest → Judges (λ w. stands (load_of bits) (var_line w)) (HoldsVar bits) v result }
+    ensures { (v : Var) → HoldsTwo (v.width, v.words) size → HoldsRest (v.start, v.kind) rest
+        → Judges (λ w. stands (load_of bits) (var_line w)) (HoldsVar bits) v result }
 {
     let (width, words) = size;
     let (start, kind) = rest;

@@ -81,7 +81,9 @@ unnamed : (s : State) (ts : List Target) (n : ℕ) (b : Bit) → list_any (names
 unnamed s [] n b h = refl
 unnamed s (t ∷ ts) n b h =
     let m : ℕ = value.select (target_width s t) n (pos (target_widths s ts)) in
-    let one : has_bit (part_at s t m) b ≡ false = false_from_ne_true (has_bit (part_at s t m) b) (λ i. absurd (cc (part_named s t m b i, neither_left (names_bit b t) (list_any (names_bit b) ts) h))) in
+    let one : has_bit (part_at s t m) b ≡ false =
+    false_from_ne_true (has_bit (part_at s t m) b)
+    (λ i. absurd (cc (part_named s t m b i, neither_left (names_bit b t) (list_any (names_bit b) ts) h))) in
     rw (one, unnamed s ts n b (neither_right (names_bit b t) (list_any (names_bit b) ts) h)) refl
 
 abbrev drives_in : Bit → List Path → Bool

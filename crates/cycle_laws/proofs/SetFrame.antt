@@ -61,7 +61,8 @@ unnamed : (s : State) (ts : List Target) (n : ℕ) (b : Bit) → list_any (λ t.
 unnamed s [] n b h = refl
 unnamed s (t ∷ ts) n b h =
     let m : ℕ = value.select (target_width s t) n (pos (target_widths s ts)) in
-    let one : has_bit (part_at s t m) b ≡ false = not_in (part_at s t m) b (var_named t) (part_var s t m) (neither_left (var_named t == b.var) (list_any (λ t. var_named t == b.var) ts) h) in
+    let one : has_bit (part_at s t m) b ≡ false =
+    not_in (part_at s t m) b (var_named t) (part_var s t m) (neither_left (var_named t == b.var) (list_any (λ t. var_named t == b.var) ts) h) in
     rw (one, unnamed s ts n b (neither_right (var_named t == b.var) (list_any (λ t. var_named t == b.var) ts) h)) refl
 
 module _ (d : Design) where

@@ -2,7 +2,8 @@
 //! the law.
 #![tactic(auto)]
 
-ghost use Rattle.design_meaning.specs.RunLaws.{BitsTellWords, BitsTellStates, PartsLeaveOthers, PartsCommute, RunsKeepStates, LeavesOthers, DrivesItsKind, EarlyReadsAreReads, SeesOnlyReads, WritesOrLeaves, WritesAlike, TwiceIsOnce, ValuesFit};
+ghost use Rattle.design_meaning.specs.RunLaws.{BitsTellWords, BitsTellStates, PartsLeaveOthers, PartsCommute, RunsKeepStates, LeavesOthers};
+ghost use Rattle.design_meaning.specs.RunLaws.{DrivesItsKind, EarlyReadsAreReads, SeesOnlyReads, WritesOrLeaves, WritesAlike, TwiceIsOnce, ValuesFit};
 ghost use Rattle.design_meaning.specs.CycleLaws.{OneEdge, OrderRunsOnce};
 ghost use Rattle.design_meaning.specs.MachineLaws.{StartsAreRuns, CyclesAreRuns};
 ghost use Rattle.design_meaning.specs.SettledLaws.{SomeStateAgrees, OrdersSettle, OrderSettlesOnce, NeverBoth, OneFault};

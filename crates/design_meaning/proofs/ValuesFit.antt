@@ -122,7 +122,8 @@ module _ (d : Design) (s : State) (h : IsStateOf d s) where
   extended : (w : ℕ) (of : Typed) (sign : Bool) → Fits of → (is_width w && is_typed d of && nat_le (width_of d of) w) ≡ true
       → value.extend (value_in s of).width w sign (value_in s of).number < 2 ^ w
   extended w of sign k ok =
-      let fits : HasWidth (width_of d of) (value_in s of) = k (right_true (is_width w) (is_typed d of) (left_true (is_width w && is_typed d of) (nat_le (width_of d of) w) ok)) in
+      let fits : HasWidth (width_of d of) (value_in s of) =
+      k (right_true (is_width w) (is_typed d of) (left_true (is_width w && is_typed d of) (nat_le (width_of d of) w) ok)) in
       let le : width_of d of ≤ w = grind (arith, common_steps, right_true (is_width w && is_typed d of) (nat_le (width_of d of) w) ok) in
       rw fits.0 (extend_fits (width_of d of) w (value_in s of).number sign le fits.1)
 
@@ -183,7 +184,8 @@ module _ (d : Design) (s : State) (h : IsStateOf d s) where
       let three : (front && is_typed d left && is_typed d right)
       ≡ true = left_true (front && is_typed d left && is_typed d right) (same_width d left right) ok in
       let two : (front && is_typed d left) ≡ true = left_true (front && is_typed d left) (is_typed d right) three in
-      let same : width_of d right ≡ width_of d left = equal_widths (width_of d left) (width_of d right) (right_true (front && is_typed d left && is_typed d right) (same_width d left right) ok) in
+      let same : width_of d right ≡ width_of d left =
+      equal_widths (width_of d left) (width_of d right) (right_true (front && is_typed d left && is_typed d right) (same_width d left right) ok) in
       pick ((value_in s test).number == 0) (value_in s right) (value_in s left) (width_of d left)
       (subst (λ w. HasWidth w (value_in s right)) same (k2 (right_true (front && is_typed d left) (is_typed d right) three)))
       (k1 (right_true front (is_typed d left) two)))

@@ -113,8 +113,10 @@ fn of_module(
         → AreAbove design here.above above.now → module_named design of ≡ Some (found.entry.number, m)
         → AreParameters (overrides.parameters m) found.entry.parameters.now
         → refuses design (standing_item here at place ns (i.Instances of params.now made)) duplicate ≡ false
-        → Finds (AreGiven (overrides.givens (names_here here at) m params.now)) (flaws_in (map (want (names_here here at)) (overrides.expressions params.now))) values
-        → Judges (spec.IsMadeOf design (names_here here at) of params.now) (refusal_at design (standing_item here at place ns (i.Instances of params.now made))) result }
+        → Finds (AreGiven (overrides.givens (names_here here at) m params.now))
+        (flaws_in (map (want (names_here here at)) (overrides.expressions params.now))) values
+        → Judges (spec.IsMadeOf design (names_here here at) of params.now)
+        (refusal_at design (standing_item here at place ns (i.Instances of params.now made))) result }
 {
     let given = match values {
         Ok(given) => given,

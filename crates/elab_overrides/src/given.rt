@@ -115,7 +115,8 @@ fn in_order<N: Names>(
     values: &[Expr],
 ) -> GivenSoFar
     ensures { (known : constants.Names) → N.environment names.now ≡ constants.constants known
-        → Gives (AreGiven (given_in_order known parameters.now values.now)) (constants.any_wrong (map (constants.read (constants.constants known)) values.now)) result }
+        → Gives (AreGiven (given_in_order known parameters.now values.now))
+        (constants.any_wrong (map (constants.read (constants.constants known)) values.now)) result }
 {
     let mut given = Ok(Givens::none(alloc));
     for (at, value) in values.iter().enumerate() {

@@ -1,5 +1,6 @@
 -- The flaws of a declaration of parameters, and what its reading gives.
-use Rattle.std.proofs.Common.{◌≡◌, ◌∙◌, ap, sym, refl, subst, ℕ, ◌+◌, ◌<◌, Bool, true, false, ◌||◌, List, [], ◌∷◌, ◌++◌, map, length, take, get_or, append-nil, Option, Some, None}
+use Rattle.std.proofs.Common.{◌≡◌, ◌∙◌, ap, sym, refl, subst, ℕ, ◌+◌, ◌<◌, Bool, true, false, ◌||◌, List, [], ◌∷◌, ◌++◌}
+use Rattle.std.proofs.Common.{map, length, take, get_or, append-nil, Option, Some, None}
 use Rattle.std.proofs.Common.{Result, Ok, Err}
 use Rattle.std.specs.Prelude.{IfOk}
 use Rattle.std.specs.List.{flat_map, list_any}
@@ -99,7 +100,8 @@ also_more here is_local known P ps n p so_far value all lt is made h k =
     (sym (take_more ps n p lt ∙ ap (λ (q : ParamName). take n ps ++ q ∷ []) (sym is)))
     (subst (λ (w : Flaws). Finds Nothing w all) (sym (own-more here is_local known (take n ps) p))
     (subst (Finds Nothing (both_flaws (flaws_in (map (want known) (flat_map (own_value here is_local) (take n ps))))
-    (flaws_in (map (want known) (own_value here is_local p))))) (sym made) (also_finds P (flaws_in (map (want known) (flat_map (own_value here is_local) (take n ps))))
+    (flaws_in (map (want known) (own_value here is_local p))))) (sym made)
+    (also_finds P (flaws_in (map (want known) (flat_map (own_value here is_local) (take n ps))))
     (flaws_in (map (want known) (own_value here is_local p))) so_far value h k)))
 
 -- All are read at the place of the declaration.
@@ -138,7 +140,8 @@ formless here at is_local f ps flaw values h k = by flaw h
         (subst (λ (ws : List Wanted). Finds Nothing (flaws_in ws) values)
         (sym (values-apart here at (names_here here at) is_local f ps (no_constant (names_here here at) f g e))) k)
 
-    by : (g : RangeFault) → IsFlaw (vector_flaws (names_here here at) (form_range f)) g → IsFlaw (declaration_flaws here at is_local f ps) (with_values g values)
+    by : (g : RangeFault) → IsFlaw (vector_flaws (names_here here at) (form_range f)) g → IsFlaw (declaration_flaws here at is_local f ps)
+        (with_values g values)
     by fault.NoMemory is = no_memory (declaration_flaws here at is_local f ps) values
     by fault.NotConstant is = all fault.NotConstant is is
     by fault.BadSelect is = all fault.BadSelect is is

@@ -1,5 +1,6 @@
 -- How the parameters of a declaration are read one after the other.
-use Rattle.std.proofs.Common.{◌≡◌, ◌∙◌, ap, sym, refl, subst, ℕ, ◌+◌, ◌<◌, ◌≤◌, Bool, List, [], ◌∷◌, ◌++◌, map, length, drop, get_or, append_assoc, append-nil, Option, Some, None, Result, Ok, Err}
+use Rattle.std.proofs.Common.{◌≡◌, ◌∙◌, ap, sym, refl, subst, ℕ, ◌+◌, ◌<◌, ◌≤◌, Bool, List, [], ◌∷◌, ◌++◌, map, length, drop}
+use Rattle.std.proofs.Common.{get_or, append_assoc, append-nil, Option, Some, None, Result, Ok, Err}
 use Rattle.std.proofs.lemmas.List.{drop_more, drop_all}
 use Rattle.vlog_tree.specs.declared.item.ParamForm.{ParamForm}
 use Rattle.vlog_tree.specs.declared.item.ParamName.{ParamName}
@@ -75,7 +76,8 @@ begin here at before is_local form ps found names is are =
       values = ap (λ (k : List Constant). values_from here (record at { known = k }) before is_local form ps) (sym (append-nil at.known));
       flaw = refl;
       constants = λ none. nothing-before (constants_from here at before is_local form ps)
-          ∙ ap (λ (k : List Constant). option_of (λ cs. [] ++ cs) (constants_from here (record at { known = k }) before is_local form ps)) (sym (append-nil at.known));
+          ∙ ap (λ (k : List Constant). option_of (λ cs. [] ++ cs) (constants_from here (record at { known = k }) before is_local form ps))
+          (sym (append-nil at.known));
       known = subst (λ (k : List Constant). AreFrames (frames here (record at { known = k })) names) (sym (append-nil at.known)) are;
     })
 

@@ -92,9 +92,12 @@ pub fn judge_loop(
 ) -> Result<i32, ElabFault>
     ensures { (design : List Module) (here : Here) (at : At) (ns : List (List ℕ)) (block : NamePlace) (places : BlockPlaces) (body : List Item)
         → AreFrames (frames here at) names.now
-        → refuses design (standing_item here at place ns (i.Loop head.entry.name.now head.entry.from.now head.entry.test.now head.entry.step_name.now head.entry.step.now block places body)) duplicate ≡ false
+        → refuses design (standing_item here at place ns
+        (i.Loop head.entry.name.now head.entry.from.now head.entry.test.now head.entry.step_name.now head.entry.step.now block places body)) duplicate
+        ≡ false
         → Judges (λ first. heads.genvar_value (heads.names_here here at) head.entry.from.now ≡ Some first)
-        (refusal_at design (standing_item here at place ns (i.Loop head.entry.name.now head.entry.from.now head.entry.test.now head.entry.step_name.now head.entry.step.now block places body))) result }
+        (refusal_at design (standing_item here at place ns
+        (i.Loop head.entry.name.now head.entry.from.now head.entry.test.now head.entry.step_name.now head.entry.step.now block places body))) result }
 {
     let visible = VisibleNames::new(names);
     let is_bad = is_bad_head(&visible, &head);

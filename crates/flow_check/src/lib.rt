@@ -2,6 +2,7 @@
 #![tactic(auto)]
 
 mod fault;
+mod threads;
 mod verdict;
 
 pub use fault::FlowFault;

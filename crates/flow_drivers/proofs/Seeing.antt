@@ -175,14 +175,17 @@ module _ (d : Design) (v : ℕ) (here : v < length d.vars) where
   read_bits : (p : ℕ) (u : Uses) → AreUsesOf d p u → has_read_var u.reads v ≡ true → (b : Bit) × IsBitOf d b × (b.var ≡ v) × IsTrue (reads_bit d p b)
   read_bits p u uses h =
       let no_span : Span = record { var = 0; word = 0; word_end = 0; place = 0; place_end = 0 } in
-      let f : (k : ℕ) × (k < length u.reads) × (((get_or u.reads k no_span).var == v && nat_lt (get_or u.reads k no_span).place (get_or u.reads k no_span).place_end) ≡ true) =
+      let f : (k : ℕ) × (k < length u.reads) × (((get_or u.reads k no_span).var == v && nat_lt (get_or u.reads k no_span).place
+      (get_or u.reads k no_span).place_end) ≡ true) =
       some_at (λ (t : Span). t.var == v && nat_lt t.place t.place_end) u.reads no_span h in
       let s : Span = get_or u.reads f.0 no_span in
       let i : IsSpanOf d.vars (get_or u.reads f.0 no_span) = uses.reads_in f.0 no_span f.1 in
       let e : (get_or u.reads f.0 no_span).var
       ≡ v = eqb-true (get_or u.reads f.0 no_span).var v
       (and_left ((get_or u.reads f.0 no_span).var == v) (nat_lt (get_or u.reads f.0 no_span).place (get_or u.reads f.0 no_span).place_end) f.2) in
-      let l : (get_or u.reads f.0 no_span).place < (get_or u.reads f.0 no_span).place_end = ltb-true (get_or u.reads f.0 no_span).place (get_or u.reads f.0 no_span).place_end (and_right ((get_or u.reads f.0 no_span).var == v) (nat_lt (get_or u.reads f.0 no_span).place (get_or u.reads f.0 no_span).place_end) f.2) in
+      let l : (get_or u.reads f.0 no_span).place < (get_or u.reads f.0 no_span).place_end =
+      ltb-true (get_or u.reads f.0 no_span).place (get_or u.reads f.0 no_span).place_end
+      (and_right ((get_or u.reads f.0 no_span).var == v) (nat_lt (get_or u.reads f.0 no_span).place (get_or u.reads f.0 no_span).place_end) f.2) in
       first p u uses (get_or u.reads f.0 no_span) f.0 no_span f.1 refl i e l
     where
       first : (p : ℕ) (u : Uses) → AreUsesOf d p u → (s : Span) (k : ℕ) (t : Span) → k < length u.reads → s ≡ get_or u.reads k t → IsSpanOf d.vars s

@@ -43,7 +43,9 @@ pub(crate) fn by_other(watch: Watch, process: u32) -> bool
 /// Notes that a process writes the variables of spans.
 pub(crate) fn watch_written(watches: &mut [Watch], spans: &[Span], process: u32)
     requires { All (λ s. s.var < length watches.old) spans.now }
-    ensures { (v : ℕ) → slice_index_or watches.new v no_watch ≡ (if has_var spans.now v then with_process (slice_index_or watches.old v no_watch) process else slice_index_or watches.old v no_watch) }
+    ensures { (v : ℕ)
+        → slice_index_or watches.new v no_watch ≡
+        (if has_var spans.now v then with_process (slice_index_or watches.old v no_watch) process else slice_index_or watches.old v no_watch) }
 {
     for span in spans {
         watches[span.var as usize] = with(watches[span.var as usize], process);
@@ -53,7 +55,9 @@ pub(crate) fn watch_written(watches: &mut [Watch], spans: &[Span], process: u32)
 /// Notes that a process reads bits of the variables of spans.
 pub(crate) fn watch_read(watches: &mut [Watch], spans: &[Span], process: u32)
     requires { All (λ s. s.var < length watches.old) spans.now }
-    ensures { (v : ℕ) → slice_index_or watches.new v no_watch ≡ (if has_read_var spans.now v then with_process (slice_index_or watches.old v no_watch) process else slice_index_or watches.old v no_watch) }
+    ensures { (v : ℕ)
+        → slice_index_or watches.new v no_watch ≡
+        (if has_read_var spans.now v then with_process (slice_index_or watches.old v no_watch) process else slice_index_or watches.old v no_watch) }
 {
     for span in spans {
         if span.place < span.place_end {

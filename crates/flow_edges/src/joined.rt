@@ -53,7 +53,8 @@ fn join_columns(
     requires readers { (i x : ℕ) → HasEdge readers.now i x → x < length next.old.items }
     requires ends { (i x : ℕ) → HasEdge next.old.items i x → x < length next.old.items }
     ensures few { IfOk result (λ _. length next.new.items < 2 ^ 32) }
-    ensures stands { IfOk result (λ _. Stands (length next.old.items) (LeadsBy next.old.items drivers.now readers.now selfish.now (length drivers.now)) next.new.items) }
+    ensures stands { IfOk result (λ _. Stands (length next.old.items) (LeadsBy next.old.items drivers.now readers.now selfish.now (length drivers.now))
+        next.new.items) }
 {
     let mut marks = vec![in alloc; false; selfish.len()]?;
     let mut from = Vec::new(alloc);

@@ -31,7 +31,9 @@ fn visit(
     requires start { root < length next.now }
     requires fresh { slice_index_or marks.old.items root New ≡ New }
     requires walk { IsWalk next.now [] cursor.old.items marks.old.items post.old.items }
-    ensures { IfOk result (λ met. MatchBool met ((p : ℕ) × IsOnCircle next.now p) (IsWalk next.now [] cursor.new.items marks.new.items post.new.items × Contains post.new.items root × ((x : ℕ) → Contains post.old.items x → Contains post.new.items x))) }
+    ensures { IfOk result (λ met. MatchBool met ((p : ℕ) × IsOnCircle next.now p)
+        (IsWalk next.now [] cursor.new.items marks.new.items post.new.items × Contains post.new.items root ×
+        ((x : ℕ) → Contains post.old.items x → Contains post.new.items x))) }
 {
     let mut path = vec![in alloc; root]?;
     marks[root as usize] = Mark::Open;

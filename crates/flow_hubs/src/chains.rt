@@ -50,7 +50,8 @@ fn put(heads: &mut Vec<u32>, links: &mut Vec<Link>, at: usize, number: u32) -> R
     requires linked { AreLinked heads.old.items links.old.items }
     requires row { at < length heads.old.items }
     ensures linked { AreLinked heads.new.items links.new.items }
-    ensures adds { IfOk result (λ _. Adds (rows_of heads.old.items links.old.items) (rows_of heads.new.items links.new.items) (λ i x. (i ≡ at) × (x ≡ number))) }
+    ensures adds { IfOk result (λ _. Adds (rows_of heads.old.items links.old.items) (rows_of heads.new.items links.new.items)
+        (λ i x. (i ≡ at) × (x ≡ number))) }
 {
     let count = links.len();
     if count >= u32::MAX as usize {

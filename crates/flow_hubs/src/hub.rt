@@ -74,7 +74,8 @@ fn join_some(
     requires few { length next.old.items < 2 ^ 32 }
     ensures marks { length marks.new.items ≡ length marks.old.items }
     ensures clear { IsClear marks.new.items }
-    ensures joins { IfOk result (λ _. JoinsShared next.old.items next.new.items drivers.now readers.now selfish.now ⊎ JoinsNew next.old.items next.new.items drivers.now readers.now selfish.now) }
+    ensures joins { IfOk result (λ _. JoinsShared next.old.items next.new.items drivers.now readers.now selfish.now ⊎ JoinsNew next.old.items next.new.items
+        drivers.now readers.now selfish.now) }
 {
     match shared(marks, drivers, readers, selfish) {
         Some(hub) => lead_through(next, drivers, readers, hub),

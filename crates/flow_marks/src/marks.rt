@@ -75,7 +75,8 @@ impl Marks {
     pub fn remove(&mut self, var: u32, word: u32, place: u8)
         requires { IsIn self.old.slots (record { var = var; word = word; place = place }) }
         ensures slots { self.new.slots ≡ self.old.slots }
-        ensures bits { (b : Bit) → IsIn self.old.slots b → has self.new b ≡ (not (is_same (record { var = var; word = word; place = place }) b) && has self.old b) }
+        ensures bits { (b : Bit) → IsIn self.old.slots b → has self.new b ≡
+            (not (is_same (record { var = var; word = word; place = place }) b) && has self.old b) }
     {
         let slot = self.slots[var as usize];
         let number = slot.bit + (word as usize * slot.width as usize + place as usize);

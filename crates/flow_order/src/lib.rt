@@ -4,6 +4,7 @@
 mod change;
 mod mask;
 mod order;
+mod threads;
 
 pub use change::active;
 pub use mask::WordMask;

@@ -147,7 +147,8 @@ pub(crate) fn read_arms(
     requires known { AreKnown vars.now state.now }
     requires arms { AreArmsIn state.now arms.now }
     requires ready { IsReady vars.now walk.old }
-    ensures { IfOk result (λ _. Passes walk.old walk.new (λ b. false) (λ b. list_any (λ arm. list_any (λ item. is_in_any b (item_reads item)) arm.items) arms.now)) }
+    ensures { IfOk result (λ _. Passes walk.old walk.new (λ b. false)
+        (λ b. list_any (λ arm. list_any (λ item. is_in_any b (item_reads item)) arm.items) arms.now)) }
 {
     for arm in arms {
         read_items(alloc, arm.items.as_slice(), vars, state, walk)?;

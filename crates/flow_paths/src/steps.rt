@@ -96,7 +96,8 @@ fn taken_in_arms(
     requires arms { AreArmsIn state.now arms.now }
     requires ready { IsReady vars.now walk.old }
     requires first { AreIn walk.old.left.slots first.items }
-    ensures { IfOk result (λ taken. ArmBranches walk.old walk.new first.items taken.items (λ b. list_all (λ arm. always_steps arm.body b) arms.now) (λ b. list_any (λ arm. early_steps arm.body b) arms.now)) }
+    ensures { IfOk result (λ taken. ArmBranches walk.old walk.new first.items taken.items (λ b. list_all (λ arm. always_steps arm.body b) arms.now)
+        (λ b. list_any (λ arm. early_steps arm.body b) arms.now)) }
 {
     let mut all = first;
     for arm in arms {

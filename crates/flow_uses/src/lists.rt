@@ -49,7 +49,8 @@ pub(crate) fn add_targets(
     requires known { AreKnown vars.now state.now }
     requires targets { AreTargetsIn state.now targets.now }
     ensures reads { IfOk result (λ _. Adds vars.now reads.old.items reads.new.items (λ b. list_any (λ t. is_in_any b (target_reads t)) targets.now)) }
-    ensures named { IfOk result (λ _. AddsNamed vars.now named.old.items named.new.items (λ b. list_any (names_bit b) targets.now) (λ v. list_any (λ t. var_named t == v) targets.now)) }
+    ensures named { IfOk result (λ _. AddsNamed vars.now named.old.items named.new.items (λ b. list_any (names_bit b) targets.now)
+        (λ v. list_any (λ t. var_named t == v) targets.now)) }
 {
     for target in targets {
         add_target(target, vars, state, reads, named)?;

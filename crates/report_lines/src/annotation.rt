@@ -20,7 +20,9 @@ pub fn annotated(
     with_points: bool,
     source: &[u8],
 ) -> Result<ByteText, NoMemory>
-    ensures { (counts : Counts) (file : List ℕ) (options : Options) → seen_table table.now ≡ table_of counts file → options.minimum ≡ minimum → options.points ≡ with_points → IfOk result (λ text. text ≡ annotated_text options counts file source.now) }
+    ensures { (counts : Counts) (file : List ℕ) (options : Options) → seen_table table.now ≡ table_of counts file
+        → options.minimum ≡ minimum → options.points ≡ with_points
+        → IfOk result (λ text. text ≡ annotated_text options counts file source.now) }
 {
     let mut text = Vec::from_slice(alloc, HEADER)?;
     let mut lines = table.lines.as_slice();

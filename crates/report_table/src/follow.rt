@@ -15,7 +15,8 @@ pub(crate) fn follow<'a>(
     requires within { first < length points.now }
     requires len { length next.now ≡ length points.now }
     requires rises { Rises next.now (length points.now) }
-    ensures { (p : DataPoint → Bool) → IsLinked p points.now next.now 0 → first_at p points.now 0 ≡ Some first → IfOk result (λ group. group.items ≡ filter p points.now) }
+    ensures { (p : DataPoint → Bool) → IsLinked p points.now next.now 0 → first_at p points.now 0 ≡ Some first
+        → IfOk result (λ group. group.items ≡ filter p points.now) }
 {
     let mut group = Vec::new(alloc);
     let mut at = Some(first);

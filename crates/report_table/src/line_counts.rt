@@ -33,7 +33,8 @@ fn add_point(
     point: &DataPoint,
 ) -> Result<(), NoMemory>
     requires { IsRead point.now }
-    ensures { OnOk result ((line : ℕ) → get nat_cmp counts.new line ≡ offered (get nat_cmp counts.old line) (has_line line (lines_of_point (seen_point point.now))) point.now.count) }
+    ensures { OnOk result ((line : ℕ) → get nat_cmp counts.new line ≡ offered (get nat_cmp counts.old line)
+        (has_line line (lines_of_point (seen_point point.now))) point.now.count) }
 {
     if let Some(line) = point.line() {
         add_line(counts, line, point.count)?;
@@ -48,7 +49,8 @@ fn add_point(
 }
 
 fn add_runs(counts: &mut BTreeMap<u32, u64>, runs: &[LineRange], count: u64) -> Result<(), NoMemory>
-    ensures { OnOk result ((line : ℕ) → get nat_cmp counts.new line ≡ offered (get nat_cmp counts.old line) (has_line line (flat_map lines_of_range runs.now)) count) }
+    ensures { OnOk result ((line : ℕ) → get nat_cmp counts.new line ≡ offered (get nat_cmp counts.old line)
+        (has_line line (flat_map lines_of_range runs.now)) count) }
 {
     'runs: for run in runs {
         add_run(counts, run, count)?;

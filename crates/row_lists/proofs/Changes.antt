@@ -1,5 +1,6 @@
 -- Lists where one of them changes.
-use Rattle.std.proofs.Common.{◌≡◌, ◌≢◌, ◌∙◌, ap, sym, inl, inr, ℕ, ◌<◌, ◌==◌, true, false, cond, List, [], ◌++◌, length, get_or, set, append-nil, Result, Ok, Err}
+use Rattle.std.proofs.Common.{◌≡◌, ◌≢◌, ◌∙◌, ap, sym, inl, inr, ℕ, ◌<◌, ◌==◌, true, false, cond, List, []}
+use Rattle.std.proofs.Common.{◌++◌, length, get_or, set, append-nil, Result, Ok, Err}
 use Rattle.std.specs.Prelude.{OnOk, ◌⊎◌}
 use Rattle.std.proofs.lemmas.Bool.Decides.{eqb_tells}
 use Rattle.std.proofs.lemmas.List.{get_or-set_same, get_or-set_other}

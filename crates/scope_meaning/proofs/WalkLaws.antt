@@ -189,7 +189,8 @@ mutual
       let scope : Here = module_scope n path above given number m in
       let b : Front vs vs' by by' true = headers h i in
       let e : Visits = module_entered n parent path number m in
-      let f : Front us us' to to' w = walked x (subst (λ (c : At). AreWalked design (body_scope scope m) (past_header c m.ports) m.items us' to' w) (sym b.1) y) in
+      let f : Front us us' to to' w =
+      walked x (subst (λ (c : At). AreWalked design (body_scope scope m) (past_header c m.ports) m.items us' to' w) (sym b.1) y) in
       append (e ++ vs ++ ports_seen scope by m.ports) (e ++ vs' ++ ports_seen scope by' m.ports) us us' to.next to'.next w
       (ap (λ (a : Visits). e ++ a ++ ports_seen scope by m.ports) b.0 ∙ ap (λ (c : At). e ++ vs' ++ ports_seen scope c m.ports) b.1)
       (behind (λ (c : At). c.next) [] us us' to to' w f)
@@ -215,5 +216,6 @@ walks_agree design top vs ws whole x y =
 pub same_walk : {design : List Module} {top : List ℕ} {vs ws : Visits} → IsWalkOf design top vs true → IsWalkOf design top ws true → vs ≡ ws
 same_walk {design} {top} {vs} {ws} x y =
     let q : (y.number, y.top_module) ≡ (x.number, x.top_module) = same _ _ (sym y.found ∙ x.found) in
-    let f : Front vs ws x.next y.next true = modules x.walked (subst (λ (k : ℕ × Module). IsModule design 0 None top [] [] k.0 k.1 ws y.next true) q y.walked) in
+    let f : Front vs ws x.next y.next true =
+    modules x.walked (subst (λ (k : ℕ × Module). IsModule design 0 None top [] [] k.0 k.1 ws y.next true) q y.walked) in
     f.0

@@ -50,7 +50,8 @@ no_entry n (c ∷ cs) = no_entry n cs
 one_row : (k n item : ℕ) (inner : Option ℕ) → filter_map (row_of k) (has_row n item inner ∷ []) ≡ cond (k == n) (record { item = item; scope = inner } ∷ []) []
 one_row k n item inner = picked (row_of k) (has_row n item inner) [] ∙ by (k == n)
   where
-    by : (b : Bool) → option_list {A = ScopeItem} (cond b (Some (record { item = item; scope = inner })) None) ++ [] ≡ cond b (record { item = item; scope = inner } ∷ []) []
+    by : (b : Bool) → option_list {A = ScopeItem} (cond b (Some (record { item = item; scope = inner })) None) ++ [] ≡ cond b
+        (record { item = item; scope = inner } ∷ []) []
     by true = refl
     by false = refl
 

@@ -1,5 +1,6 @@
 -- The rows of a tree are those of the scopes of a walk.
-use Rattle.std.proofs.Common.{◌≡◌, ◌∙◌, ap, sym, refl, subst, ℕ, suc, ◌+◌, ◌≤◌, Bool, true, false, List, [], ◌∷◌, ◌++◌, map, length, Option, Some, None, arith, length-append}
+use Rattle.std.proofs.Common.{◌≡◌, ◌∙◌, ap, sym, refl, subst, ℕ, suc, ◌+◌, ◌≤◌, Bool, true, false, List, [], ◌∷◌}
+use Rattle.std.proofs.Common.{◌++◌, map, length, Option, Some, None, arith, length-append}
 use Rattle.std.specs.Prelude.{slice_get}
 use Rattle.std.specs.List.{filter, filter_map, AllZip}
 use Rattle.std.proofs.lemmas.List.{map-append}
@@ -96,7 +97,8 @@ rows-put constants items n [] s =
 rows-put constants items n (x ∷ ss) s =
     rows-more constants items n x (ss ++ s ∷ [])
     ∙ ap (λ (rows : List Scope). row (list_at constants n) (list_at items n) x ∷ rows) (rows-put constants items (n + 1) ss s)
-    ∙ ap (λ k. (row (list_at constants n) (list_at items n) x ∷ rows_from constants items (n + 1) ss) ++ row (list_at constants k) (list_at items k) s ∷ []) (omega arith)
+    ∙ ap (λ k. (row (list_at constants n) (list_at items n) x ∷ rows_from constants items (n + 1) ss) ++ row (list_at constants k) (list_at items k) s ∷
+    []) (omega arith)
     ∙ ap (λ (rows : List Scope). rows ++ row (list_at constants (n + length (x ∷ ss))) (list_at items (n + length (x ∷ ss))) s ∷ [])
     (sym (rows-more constants items n x ss))
 

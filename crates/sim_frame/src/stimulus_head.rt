@@ -41,7 +41,8 @@ pub fn open_stimulus<'a, F: Files>(
 ) -> Result<OpenStimulus<'a>, Ending>
     requires valid { IsValid design.now }
     requires holds { IfSome (F.held files.old) (λ held. HoldsDesign held asked.now.design.now design.now) }
-    ensures begun { IfOk result (λ begun. IfSome (F.held files.old) (λ held. IsBegun held asked.now.stimulus.now design.now.design begun.reader (F.rest files.new))) }
+    ensures begun { IfOk result (λ begun. IfSome (F.held files.old)
+        (λ held. IsBegun held asked.now.stimulus.now design.now.design begun.reader (F.rest files.new))) }
     ensures reader { IfOk result (λ begun. IsReaderOf design.now.design begun.reader begun.row) }
     ensures lines { IfOk result (λ begun. begun.lines ≡ asked.now.stimulus.now) }
     ensures ok_quiet { OnOk result (F.faults files.new ≡ F.faults files.old) }
@@ -71,7 +72,8 @@ fn read_head<'a, F: Files>(
     requires holds { IfSome (F.held files.old) (λ held. HoldsDesign held asked.now.design.now design.now) }
     requires opened { IsOpened (F.held files.old) asked.now.stimulus.now (F.rest files.old) }
     requires lines { lines ≡ asked.now.stimulus.now }
-    ensures begun { IfOk result (λ begun. IfSome (F.held files.old) (λ held. IsBegun held asked.now.stimulus.now design.now.design begun.reader (F.rest files.new))) }
+    ensures begun { IfOk result (λ begun. IfSome (F.held files.old)
+        (λ held. IsBegun held asked.now.stimulus.now design.now.design begun.reader (F.rest files.new))) }
     ensures reader { IfOk result (λ begun. IsReaderOf design.now.design begun.reader begun.row) }
     ensures lines { IfOk result (λ begun. begun.lines ≡ asked.now.stimulus.now) }
     ensures ok_quiet { OnOk result (F.faults files.new ≡ F.faults files.old) }

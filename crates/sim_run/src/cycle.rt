@@ -24,8 +24,10 @@ pub(crate) fn run_start<S: Sink, L: Ledger>(
 ) -> Result<CycleEnd, SinkFault>
     requires sound { IsSound machine.old }
     requires first { machine.old.started ≡ false }
-    ensures ran { IfOk result (λ end. HasStarted machine.old.design (between machine.new) (end_seen end) output.old output.new (S.written out.old) (S.written out.new)) }
-    ensures part { OnErr result (HasStartedPart machine.old.design (between machine.new) (end_seen machine.new.end) output.old (S.written out.old) (S.written out.new)) }
+    ensures ran { IfOk result (λ end. HasStarted machine.old.design (between machine.new) (end_seen end) output.old output.new (S.written out.old)
+        (S.written out.new)) }
+    ensures part { OnErr result (HasStartedPart machine.old.design (between machine.new) (end_seen machine.new.end) output.old (S.written out.old)
+        (S.written out.new)) }
     ensures cause { HasCause (S.faults out.old) (S.faults out.new) result }
     ensures sound { IsSound machine.new }
     ensures same { SameRun machine.old machine.new }
@@ -53,8 +55,11 @@ pub(crate) fn run_cycle<S: Sink, L: Ledger>(
     requires goes { machine.old.end ≡ cycle_end.Goes }
     requires row { IsRow machine.old.design.design row.now.values }
     requires few { machine.old.cycles < 2 ^ 32 }
-    ensures ran { IfOk result (λ end. HasRun machine.old.design (between machine.old) (between machine.new) (row.now.values ∷ []) (end_seen end) output.old output.new (S.written out.old) (S.written out.new)) }
-    ensures part { OnErr result (HasRunPart machine.old.design (between machine.old) (between machine.new) (row.now.values ∷ []) (end_seen machine.new.end) output.old (S.written out.old) (S.written out.new)) }
+    ensures ran { IfOk result (λ end. HasRun machine.old.design (between machine.old) (between machine.new) (row.now.values ∷ []) (end_seen end) output.old
+        output.new (S.written out.old) (S.written out.new)) }
+    ensures part { OnErr result (HasRunPart machine.old.design (between machine.old) (between machine.new) (row.now.values ∷ []) (end_seen machine.new.end)
+        output.old
+        (S.written out.old) (S.written out.new)) }
     ensures cause { HasCause (S.faults out.old) (S.faults out.new) result }
     ensures sound { IsSound machine.new }
     ensures same { SameRun machine.old machine.new }

@@ -29,8 +29,11 @@ pub(crate) fn run_row<S: Sink, L: Ledger>(
     requires goes { machine.old.end ≡ cycle_end.Goes }
     requires row { IsRow machine.old.design.design row.now.values }
     requires few { machine.old.cycles + row.now.repeat ≤ 2 ^ 32 }
-    ensures ran { IfOk result (λ end. HasRun machine.old.design (between machine.old) (between machine.new) (replicate row.now.repeat row.now.values) (end_seen end) output.old output.new (S.written out.old) (S.written out.new)) }
-    ensures part { OnErr result (HasRunFirst machine.old.design (between machine.old) (between machine.new) (replicate row.now.repeat row.now.values) (end_seen machine.new.end) output.old (S.written out.old) (S.written out.new)) }
+    ensures ran { IfOk result (λ end. HasRun machine.old.design (between machine.old) (between machine.new) (replicate row.now.repeat row.now.values)
+        (end_seen end)
+        output.old output.new (S.written out.old) (S.written out.new)) }
+    ensures part { OnErr result (HasRunFirst machine.old.design (between machine.old) (between machine.new) (replicate row.now.repeat row.now.values)
+        (end_seen machine.new.end) output.old (S.written out.old) (S.written out.new)) }
     ensures cause { HasCause (S.faults out.old) (S.faults out.new) result }
     ensures sound { IsSound machine.new }
     ensures same { SameRun machine.old machine.new }

@@ -41,7 +41,8 @@ fn run_next<F: Files, S: Sink, L: Ledger>(
     requires cycles { reader.old.cycles ≡ machine.old.cycles }
     requires room { length row.old.values ≡ length reader.old.layout.columns }
     requires widths { input_widths reader.old.layout ≡ map (λ i. i.width) (inputs_of machine.old.design.design) }
-    ensures ran { IfNone result (HasRun machine.old.design (between machine.old) (between machine.new) (replicate row.new.repeat row.new.values) goes output.old output.new (S.written out.old) (S.written out.new)) }
+    ensures ran { IfNone result (HasRun machine.old.design (between machine.old) (between machine.new) (replicate row.new.repeat row.new.values) goes output.old
+        output.new (S.written out.old) (S.written out.new)) }
     ensures told { IfNone result (TellsLeft step.Row row.new (rows_left reader.old (F.rest files.old)) (rows_left reader.new (F.rest files.new))) }
     ensures moved { IfNone result (reader.old.cycles < reader.new.cycles) }
     ensures few { reader.new.cycles ≤ 2 ^ 32 }
@@ -56,9 +57,11 @@ fn run_next<F: Files, S: Sink, L: Ledger>(
     ensures stands { IfNone result ((text : List ℕ) → StandsIn text reader.old.lines (F.rest files.old) → StandsIn text reader.new.lines (F.rest files.new)) }
     ensures quiet { IfNone result (F.faults files.new ≡ F.faults files.old) }
     ensures calm { IfNone result (S.faults out.new ≡ S.faults out.old) }
-    ensures end { IfSome result (λ end. RowsEndIn end machine.old.design (between machine.old) (between machine.new) (end_seen machine.new.end) (rows_left reader.old (F.rest files.old)) output.old output.new (S.written out.old) (S.written out.new)) }
+    ensures end { IfSome result (λ end. RowsEndIn end machine.old.design (between machine.old) (between machine.new) (end_seen machine.new.end)
+        (rows_left reader.old (F.rest files.old)) output.old output.new (S.written out.old) (S.written out.new)) }
     ensures of_text { IfSome result (λ end. IfRefused end (λ flaw. is_of_text flaw ≡ true)) }
-    ensures frugal { IfSome result (λ end. IfRefused end (λ flaw. (text : List ℕ) → StandsIn text reader.old.lines (F.rest files.old) → IfSome (line_of flaw) (λ n. IsFrugal text (F.rest files.new) n))) }
+    ensures frugal { IfSome result (λ end. IfRefused end
+        (λ flaw. (text : List ℕ) → StandsIn text reader.old.lines (F.rest files.old) → IfSome (line_of flaw) (λ n. IsFrugal text (F.rest files.new) n))) }
     ensures causes { IfSome result (λ end. HasCauses end (F.faults files.old) (F.faults files.new) (S.faults out.old) (S.faults out.new)) }
     ensures held { F.held files.new ≡ F.held files.old }
 {
@@ -91,9 +94,11 @@ pub(crate) fn run_rows<F: Files, S: Sink, L: Ledger>(
     requires cycles { reader.old.cycles ≡ machine.old.cycles }
     requires room { length row.old.values ≡ length reader.old.layout.columns }
     requires widths { input_widths reader.old.layout ≡ map (λ i. i.width) (inputs_of machine.old.design.design) }
-    ensures end { RowsEndIn result machine.old.design (between machine.old) (between machine.new) (end_seen machine.new.end) (rows_left reader.old (F.rest files.old)) output.old output.new (S.written out.old) (S.written out.new) }
+    ensures end { RowsEndIn result machine.old.design (between machine.old) (between machine.new) (end_seen machine.new.end)
+        (rows_left reader.old (F.rest files.old)) output.old output.new (S.written out.old) (S.written out.new) }
     ensures of_text { IfRefused result (λ flaw. is_of_text flaw ≡ true) }
-    ensures frugal { IfRefused result (λ flaw. (text : List ℕ) → StandsIn text reader.old.lines (F.rest files.old) → IfSome (line_of flaw) (λ n. IsFrugal text (F.rest files.new) n)) }
+    ensures frugal { IfRefused result (λ flaw. (text : List ℕ) → StandsIn text reader.old.lines (F.rest files.old) → IfSome (line_of flaw)
+        (λ n. IsFrugal text (F.rest files.new) n)) }
     ensures causes { HasCauses result (F.faults files.old) (F.faults files.new) (S.faults out.old) (S.faults out.new) }
     ensures held { F.held files.new ≡ F.held files.old }
     ensures sound { IsSound machine.new }

@@ -44,14 +44,18 @@ pub fn run_stimulus<F: Files, S: Sink, L: Ledger>(
     requires room { length row.old.values ≡ length reader.old.layout.columns }
     requires widths { DifferentNames machine.old.design.design → input_widths reader.old.layout ≡ map (λ i. i.width) (inputs_of machine.old.design.design) }
     // A run on all rows of the stimulus, those behind a flag too.
-    ensures ended { IfEnded result (λ end. HasEnded machine.old.design (rows_left reader.old (F.rest files.old)) (end_seen end) machine.new.counts output.old output.new (S.written out.old) (S.written out.new)) }
+    ensures ended { IfEnded result (λ end. HasEnded machine.old.design (rows_left reader.old (F.rest files.old)) (end_seen end) machine.new.counts output.old
+        output.new (S.written out.old) (S.written out.new)) }
     ensures whole { IfEnded result (λ end. IsWhole end (rows_left reader.old (F.rest files.old))) }
 
     // A run on the rows before the line that is refused.
-    ensures refused { IfRefused result (λ flaw. HasEnded machine.old.design (rows_left reader.old (F.rest files.old)) goes machine.new.counts output.old output.new (S.written out.old) (S.written out.new)) }
+    ensures refused { IfRefused result
+        (λ flaw. HasEnded machine.old.design (rows_left reader.old (F.rest files.old)) goes machine.new.counts output.old output.new
+        (S.written out.old) (S.written out.new)) }
     ensures fault { IfRefused result (λ flaw. IfSome (rows_left reader.old (F.rest files.old)) (λ stim. stim.fault ≡ Some flaw)) }
     ensures of_text { IfRefused result (λ flaw. is_of_text flaw ≡ true) }
-    ensures frugal { IfRefused result (λ flaw. (text : List ℕ) → StandsIn text reader.old.lines (F.rest files.old) → IfSome (line_of flaw) (λ n. IsFrugal text (F.rest files.new) n)) }
+    ensures frugal { IfRefused result (λ flaw. (text : List ℕ) → StandsIn text reader.old.lines (F.rest files.old) → IfSome (line_of flaw)
+        (λ n. IsFrugal text (F.rest files.new) n)) }
 
     // A read or a put failed.
     ensures begun { IfFailed result (HasBegun machine.old.design (rows_left reader.old (F.rest files.old)) output.old (S.written out.old) (S.written out.new)) }

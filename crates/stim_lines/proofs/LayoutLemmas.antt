@@ -80,7 +80,9 @@ count-right : (inputs : List Input) (header : List (List ℕ)) (n : ℕ) (fields
 count-right inputs header n fields e =
     let behind = none-second (option_map_or (λ (cycles : ℕ). None) (cycles_of fields) (Some (BadRepeat n)))
     (or_else (cond (length (value_fields fields) == length header) None (Some (WrongCount n))) (values_fault inputs n (zip header (value_fields fields)))) e in
-    let counted = none-first (cond (length (value_fields fields) == length header) None (Some (WrongCount n))) (values_fault inputs n (zip header (value_fields fields))) behind in
+    let counted =
+    none-first (cond (length (value_fields fields) == length header) None (Some (WrongCount n)))
+    (values_fault inputs n (zip header (value_fields fields))) behind in
     eqb-true (length (value_fields fields)) (length header) (test-passed (length (value_fields fields) == length header) (WrongCount n) counted)
 
 same-row : (inputs : List Input) (header : List (List ℕ)) (n : ℕ) (fields : List (List ℕ)) → row_fault inputs header n fields ≡ None

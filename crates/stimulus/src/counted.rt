@@ -23,7 +23,8 @@ pub(crate) fn counted_row(
 ) -> Result<u64, StimFault>
     requires room { length cells.old ≡ length layout.now.widths }
     requires within { cycles ≤ 4294967296 }
-    ensures row { IfOk result (λ repeat. (rest : StimText) → row_said layout.now cycles number (fields_of line.now) rest ≡ with_row (record { values = placed cells.new layout.now.columns; repeat = repeat }) rest) }
+    ensures row { IfOk result (λ repeat. (rest : StimText) → row_said layout.now cycles number (fields_of line.now) rest ≡ with_row
+        (record { values = placed cells.new layout.now.columns; repeat = repeat }) rest) }
     ensures sum { IfOk result (λ repeat. cycles + repeat ≤ 4294967296) }
     ensures some { IfOk result (λ repeat. 1 ≤ repeat) }
     ensures fit { OnOk result ((k : ℕ) → slice_index cells.new k < 2 ^ slice_index layout.now.widths k) }

@@ -63,12 +63,15 @@ impl SpokenLines {
     /// Takes the next line that isn't skipped, and tells whether there is one. It takes no memory.
     pub(crate) fn next_spoken<F: Files>(&mut self, files: &mut F) -> Result<bool, StimFault>
         requires { self.old.cutter.fault ≡ None }
-        ensures comes { IfOk result (λ more. ComesTold (story_of more) (line_said self.new) (heard_left self.old (F.rest files.old)) (heard_left self.new (F.rest files.new))) }
+        ensures comes { IfOk result (λ more. ComesTold (story_of more) (line_said self.new) (heard_left self.old (F.rest files.old))
+            (heard_left self.new (F.rest files.new))) }
         ensures fault { IfErr result (λ flaw. is_of_text flaw ≡ true → IfSome (heard_left self.old (F.rest files.old)) (BeginsRefused flaw)) }
         ensures goes_on { OnOk result (self.new.cutter.fault ≡ None) }
         ensures stands { OnOk result ((text : List ℕ) → StandsIn text self.old (F.rest files.old) → StandsIn text self.new (F.rest files.new)) }
-        ensures given { IfOk result (λ more. IfSpoken (story_of more) ((text : List ℕ) → StandsIn text self.old (F.rest files.old) → IsFrugal text (F.rest files.new) self.new.number)) }
-        ensures frugal { IfErr result (λ flaw. (text : List ℕ) → StandsIn text self.old (F.rest files.old) → IfSome (line_of flaw) (λ n. IsFrugal text (F.rest files.new) n)) }
+        ensures given { IfOk result (λ more. IfSpoken (story_of more)
+            ((text : List ℕ) → StandsIn text self.old (F.rest files.old) → IsFrugal text (F.rest files.new) self.new.number)) }
+        ensures frugal { IfErr result (λ flaw. (text : List ℕ) → StandsIn text self.old (F.rest files.old) → IfSome (line_of flaw)
+            (λ n. IsFrugal text (F.rest files.new) n)) }
         ensures held { F.held files.new ≡ F.held files.old }
         ensures ok_quiet { OnOk result (F.faults files.new ≡ F.faults files.old) }
         ensures fault_quiet { IfErr result (λ flaw. (flaw ≡ fault.Failed → ⊥) → F.faults files.new ≡ F.faults files.old) }
@@ -89,14 +92,17 @@ impl SpokenLines {
     /// Takes one line.
     fn take_line<F: Files>(&mut self, files: &mut F) -> Result<LineStory, StimFault>
         requires { self.old.cutter.fault ≡ None }
-        ensures comes { IfOk result (λ story. ComesTold story (line_said self.new) (heard_left self.old (F.rest files.old)) (heard_left self.new (F.rest files.new))) }
+        ensures comes { IfOk result (λ story. ComesTold story (line_said self.new) (heard_left self.old (F.rest files.old))
+            (heard_left self.new (F.rest files.new))) }
         ensures fault { IfErr result (λ flaw. is_of_text flaw ≡ true → IfSome (heard_left self.old (F.rest files.old)) (BeginsRefused flaw)) }
         ensures goes_on { OnOk result (self.new.cutter.fault ≡ None) }
         ensures moves { IfOk result (λ story. Moves story self.old.bytes self.new.bytes) }
         ensures within { self.new.bytes ≤ 1099511627776 }
         ensures stands { OnOk result ((text : List ℕ) → StandsIn text self.old (F.rest files.old) → StandsIn text self.new (F.rest files.new)) }
-        ensures given { IfOk result (λ story. IfSpoken story ((text : List ℕ) → StandsIn text self.old (F.rest files.old) → IsFrugal text (F.rest files.new) self.new.number)) }
-        ensures frugal { IfErr result (λ flaw. (text : List ℕ) → StandsIn text self.old (F.rest files.old) → IfSome (line_of flaw) (λ n. IsFrugal text (F.rest files.new) n)) }
+        ensures given { IfOk result (λ story. IfSpoken story
+            ((text : List ℕ) → StandsIn text self.old (F.rest files.old) → IsFrugal text (F.rest files.new) self.new.number)) }
+        ensures frugal { IfErr result (λ flaw. (text : List ℕ) → StandsIn text self.old (F.rest files.old) → IfSome (line_of flaw)
+            (λ n. IsFrugal text (F.rest files.new) n)) }
         ensures held { F.held files.new ≡ F.held files.old }
         ensures ok_quiet { OnOk result (F.faults files.new ≡ F.faults files.old) }
         ensures fault_quiet { IfErr result (λ flaw. (flaw ≡ fault.Failed → ⊥) → F.faults files.new ≡ F.faults files.old) }
@@ -117,10 +123,13 @@ impl SpokenLines {
     fn tell(&mut self, ended: bool) -> Result<LineStory, StimFault>
         requires short { length self.old.cutter.line ≤ 65535 }
         requires some { 0 < bytes_of (self.old.cutter.line, ended) }
-        ensures story { IfOk result (λ story. IsStory story (self.old.number + 1) self.old.cutter.line (says (self.old.bytes + bytes_of (self.old.cutter.line, ended)) (self.old.number + 1) (self.old.cutter.line, ended))) }
+        ensures story { IfOk result (λ story. IsStory story (self.old.number + 1) self.old.cutter.line
+            (says (self.old.bytes + bytes_of (self.old.cutter.line, ended)) (self.old.number + 1) (self.old.cutter.line, ended))) }
         ensures moved { OnOk result (IsNext (bytes_of (self.old.cutter.line, ended)) self.old self.new) }
         ensures within { self.new.bytes ≤ 1099511627776 }
-        ensures fault { IfErr result (λ flaw. says (self.old.bytes + bytes_of (self.old.cutter.line, ended)) (self.old.number + 1) (self.old.cutter.line, ended) ≡ refused flaw) }
+        ensures fault { IfErr result (λ flaw. says (self.old.bytes + bytes_of (self.old.cutter.line, ended)) (self.old.number + 1)
+            (self.old.cutter.line, ended) ≡
+            refused flaw) }
         ensures err { OnErr result (self.new ≡ self.old) }
         ensures line { IfErr result (λ flaw. NamesLine flaw (self.old.number + 1)) }
         ensures of_text { IfErr result (λ flaw. is_of_text flaw ≡ true) }

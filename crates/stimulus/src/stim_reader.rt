@@ -111,7 +111,8 @@ impl StimReader {
 
         // How much is taken of a file whose bytes are told.
         ensures stands { OnOk result ((text : List ℕ) → StandsIn text self.old.lines (F.rest files.old) → StandsIn text self.new.lines (F.rest files.new)) }
-        ensures frugal { IfErr result (λ flaw. self.old.fault ≡ None → (text : List ℕ) → StandsIn text self.old.lines (F.rest files.old) → IfSome (line_of flaw) (λ n. IsFrugal text (F.rest files.new) n)) }
+        ensures frugal { IfErr result (λ flaw. self.old.fault ≡ None → (text : List ℕ) → StandsIn text self.old.lines (F.rest files.old) → IfSome (line_of flaw)
+            (λ n. IsFrugal text (F.rest files.new) n)) }
 
         // Each fault of a call has its cause, and nothing else raises a number.
         ensures held { F.held files.new ≡ F.held files.old }
@@ -137,12 +138,16 @@ impl StimReader {
         requires room { length row.old.values ≡ length self.old.layout.columns }
         requires no_fault { self.old.fault ≡ None }
         ensures step { IfOk result (λ step. step ≡ RowStep.Row) }
-        ensures row { OnOk result ((rest : StimText) → row_said self.old.layout self.old.cycles self.old.lines.number (fields_of self.old.lines.cutter.line) rest ≡ with_row row.new rest) }
+        ensures row { OnOk result ((rest : StimText) → row_said self.old.layout self.old.cycles self.old.lines.number (fields_of self.old.lines.cutter.line)
+            rest ≡
+            with_row row.new rest) }
         ensures new { OnOk result (self.new ≡ record self.old { cycles = self.old.cycles + row.new.repeat }) }
         ensures fit { OnOk result (FitsLayout self.old.layout row.new) }
         ensures len { length row.new.values ≡ length self.old.layout.columns }
         ensures few { self.new.cycles ≤ 4294967296 }
-        ensures fault { IfErr result (λ flaw. (rest : StimText) → row_said self.old.layout self.old.cycles self.old.lines.number (fields_of self.old.lines.cutter.line) rest ≡ only_fault flaw) }
+        ensures fault { IfErr result (λ flaw. (rest : StimText) → row_said self.old.layout self.old.cycles self.old.lines.number
+            (fields_of self.old.lines.cutter.line)
+            rest ≡ only_fault flaw) }
         ensures stays { IfErr result (λ flaw. self.new ≡ record self.old { fault = Some flaw }) }
         ensures nothing { OnErr result (row.new ≡ row.old) }
         ensures line { IfErr result (λ flaw. NamesLine flaw self.old.lines.number) }
@@ -160,12 +165,16 @@ impl StimReader {
     /// Reads the line that was given as a row.
     fn read(&mut self, row: &mut Row) -> Result<(), StimFault>
         requires room { length row.old.values ≡ length self.old.layout.columns }
-        ensures row { OnOk result ((rest : StimText) → row_said self.old.layout self.old.cycles self.old.lines.number (fields_of self.old.lines.cutter.line) rest ≡ with_row row.new rest) }
+        ensures row { OnOk result ((rest : StimText) → row_said self.old.layout self.old.cycles self.old.lines.number (fields_of self.old.lines.cutter.line)
+            rest ≡
+            with_row row.new rest) }
         ensures new { OnOk result (self.new ≡ record self.old { cycles = self.old.cycles + row.new.repeat }) }
         ensures fit { OnOk result (FitsLayout self.old.layout row.new) }
         ensures len { length row.new.values ≡ length self.old.layout.columns }
         ensures few { self.new.cycles ≤ 4294967296 }
-        ensures fault { IfErr result (λ flaw. (rest : StimText) → row_said self.old.layout self.old.cycles self.old.lines.number (fields_of self.old.lines.cutter.line) rest ≡ only_fault flaw) }
+        ensures fault { IfErr result (λ flaw. (rest : StimText) → row_said self.old.layout self.old.cycles self.old.lines.number
+            (fields_of self.old.lines.cutter.line)
+            rest ≡ only_fault flaw) }
         ensures stays { OnErr result (self.new ≡ self.old) }
         ensures nothing { OnErr result (row.new ≡ row.old) }
         ensures line { IfErr result (λ flaw. NamesLine flaw self.old.lines.number) }

@@ -92,7 +92,8 @@ fn text_row(
     requires within { cycles ≤ 4294967296 }
     ensures row { IfOk result (λ row. (rest : StimText) → row_said layout.now cycles number (fields_of line.now) rest ≡ with_row row rest) }
     ensures sum { IfOk result (λ row. cycles + row.repeat ≤ 4294967296) }
-    ensures fault { IfErr result (λ flaw. (flaw ≡ fault.NoMemory → ⊥) → (rest : StimText) → row_said layout.now cycles number (fields_of line.now) rest ≡ only_fault flaw) }
+    ensures fault { IfErr result (λ flaw. (flaw ≡ fault.NoMemory → ⊥) → (rest : StimText) → row_said layout.now cycles number (fields_of line.now) rest ≡
+        only_fault flaw) }
     ensures len { length cells.new ≡ length cells.old }
     ensures no_failure { IfErr result (λ flaw. flaw ≡ fault.Failed → ⊥) }
 {

@@ -3,7 +3,6 @@
 
 mod choose;
 mod covers;
-mod cross;
 mod fault;
 mod gains;
 mod law;
@@ -13,6 +12,7 @@ mod point_index;
 mod ranking;
 mod table;
 mod test_list;
+mod threads;
 
 pub use covers::TestCovers;
 pub use fault::RankFault;

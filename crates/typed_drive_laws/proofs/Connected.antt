@@ -55,7 +55,8 @@ module _ (design : List Module) (test : Here → At → Join → Bool) where
 
   header_in : {here : Here} {at to : At} {items : List Item} {vs : Visits} {whole : Bool} → AreHeader here at items vs to whole → whole ≡ true → Instances vs
   header_in no_more e = tt
-  header_in {here} (header {cs = cs} {vs = vs} q d) e = (tt, facts_both AtInstance (map (has_constant here.number) cs) vs (constants_in here.number cs) (header_in d e))
+  header_in {here} (header {cs = cs} {vs = vs} q d) e =
+      (tt, facts_both AtInstance (map (has_constant here.number) cs) vs (constants_in here.number cs) (header_in d e))
   header_in ends_at e = (tt, tt)
 
   -- the connections of the instances of an item
@@ -65,7 +66,8 @@ module _ (design : List Module) (test : Here → At → Join → Bool) where
   mutual
     walked : {here : Here} {at to : At} {items : List Item} {vs : Visits} → AreWalked design here at items vs to true → Items vs → Instances vs
     walked no_items h = tt
-    walked (goes_on {vs = vs} {ws = ws} d ds) h = facts_both AtInstance vs ws (item_walked d refl (facts_left AtItem vs ws h)) (walked ds (facts_right AtItem vs ws h))
+    walked (goes_on {vs = vs} {ws = ws} d ds) h = facts_both AtInstance vs ws (item_walked d refl (facts_left AtItem vs ws h))
+        (walked ds (facts_right AtItem vs ws h))
 
     item_walked : {here : Here} {at to : At} {a : Item} {l : Layer} {vs : Visits} → IsWalked design here at a l vs to true → layer a ≡ l → Items vs
         → Instances vs
@@ -89,8 +91,14 @@ module _ (design : List Module) (test : Here → At → Join → Bool) where
 
     in_block : {here : Here} {at : At} {name : List ℕ} {genvar : Option Constant} {first next : ℕ} {items : List Item} {vs : Visits}
         → IsBlock design here at name genvar first items vs next true → Items vs → Instances vs
-    in_block {at = at} {genvar = genvar} (block {vs = vs} d) h =
-        (tt, (tt, facts_both AtInstance (genvar_visit at.next genvar) vs (genvar_in at.next genvar) (walked d (facts_right AtItem (genvar_visit at.next genvar) vs h.1.1))))
+    in_block {at = at} {genvar = genvar} (block {vs = vs} d) h = (
+      tt,
+      (
+        tt,
+        facts_both AtInstance (genvar_visit at.next genvar) vs (genvar_in at.next genvar)
+            (walked d (facts_right AtItem (genvar_visit at.next genvar) vs h.1.1)),
+      ),
+    )
 
     all_made : {here : Here} {at : At} {p : Place} {number n next : ℕ} {m : Module} {given : List Given} {xs : List Instance} {vs : Visits}
         → AreMade design here at p number m given n xs vs next true → MadeWell here at m xs → Items vs → Instances vs
@@ -98,15 +106,22 @@ module _ (design : List Module) (test : Here → At → Join → Bool) where
     all_made {here} {at} {m = m} (made {a = a} {more = more} {vs = vs} {ws = ws} d ds) w h =
         let both = sym (all_append (test here at) (joins m a.ports) (flat_map (λ x. joins m x.ports) more)) ∙ w in
         let first = list_all (test here at) (joins m a.ports) in
-        let others = list_all (test here at) (flat_map (λ x. joins m x.ports) more) in
-        (tt, (left_true first others both, facts_both AtInstance vs ws (in_module d (facts_left AtItem vs ws h.1.1)) (all_made ds (right_true first others both) (facts_right AtItem vs ws h.1.1))))
+        let others = list_all (test here at) (flat_map (λ x. joins m x.ports) more) in (
+          tt,
+          (
+            left_true first others both,
+            facts_both AtInstance vs ws (in_module d (facts_left AtItem vs ws h.1.1))
+                (all_made ds (right_true first others both) (facts_right AtItem vs ws h.1.1)),
+          ),
+        )
 
     in_module : {n number next : ℕ} {parent : Option ℕ} {path : List ℕ} {above : List (List ℕ)} {given : List Given} {m : Module} {vs : Visits}
         → IsModule design n parent path above given number m vs next true → Items vs → Instances vs
     in_module (entered_module {n = n} {number = number} {path = path} {above = above} {given = given} {m = m} {by = by} {vs = vs} {ws = ws} d ds) h =
         let ports = ports_seen (module_scope n path above given number m) by m.ports in (
           tt,
-          facts_both AtInstance (vs ++ ports) ws (facts_both AtInstance vs ports (header_in d refl) (ports_in (module_scope n path above given number m) by m.ports))
+          facts_both AtInstance (vs ++ ports) ws
+              (facts_both AtInstance vs ports (header_in d refl) (ports_in (module_scope n path above given number m) by m.ports))
               (walked ds (facts_right AtItem (vs ++ ports) ws h.1)),
         )
 

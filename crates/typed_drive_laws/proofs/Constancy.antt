@@ -24,7 +24,8 @@ use Rattle.source_meaning.specs.Operators.{unary_of, binary_of}
 use Rattle.source_meaning.specs.Operators as operators
 use Rattle.source_meaning.specs.Joins.{joined_value, copies, ceil_log2}
 use Rattle.flat_meaning.specs.Expressions.{meaning, variable_of}
-use Rattle.flat_meaning.proofs.Meanings.{selection_of, of-Number, of-Unary, of-Binary, of-Choose, of-Join, of-Repeat, of-Call, of-At, of-Between, of-Up, of-Down}
+use Rattle.flat_meaning.proofs.Meanings.{selection_of, of-Number, of-Unary, of-Binary, of-Choose, of-Join, of-Repeat, of-Call}
+use Rattle.flat_meaning.proofs.Meanings.{of-At, of-Between, of-Up, of-Down}
 use Rattle.design_meaning.specs.Spans.{node_constant, index_constant, is_constant}
 use Rattle.design_meaning.proofs.Constants.{constant}
 use Rattle.design_meaning.proofs.ListLaws.{left_true, right_true}

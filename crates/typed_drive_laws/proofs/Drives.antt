@@ -35,7 +35,8 @@ use Rattle.typed_drive_laws.specs.FormedBodies.{is_default, one_default, is_form
 use Rattle.typed_drive_laws.specs.DriveLaws.{TypedDrivesTheSame}
 use Rattle.typed_drive_laws.proofs.Formed as formed
 use Rattle.typed_drive_laws.proofs.TargetBits.{named_targets}
-use Rattle.typed_drive_laws.proofs.StepBits.{drives_in, drives_append, drives_counted, drives_counts, drives_if, drives_case, drives_set, drives_later, drives_show}
+use Rattle.typed_drive_laws.proofs.StepBits.{drives_in, drives_append, drives_counted, drives_counts, drives_if, drives_case}
+use Rattle.typed_drive_laws.proofs.StepBits.{drives_set, drives_later, drives_show}
 use Rattle.typed_drive_laws.proofs.StepBits.{drives_finish, drives_stop}
 
 -- ---- arms with items, and a default apart
@@ -154,11 +155,13 @@ module _ (vars : List FlatVar) (scope : ℕ) (marks : Event → List ℕ) where
         ∙ sym (ap (λ os. some_names os b) (named.of-Case vars p wild on arms))
     drives_step (typed.set {p} {target} {value} {ts} {a} dt dv) f b here =
         drives_set ts a b
-        ∙ named_targets vars dt (left_true (has_constants vars target) (has_constants vars value) (sym (formed.of-Set (has_constants vars) p target value) ∙ f)) b here
+        ∙ named_targets vars dt (left_true (has_constants vars target) (has_constants vars value)
+        (sym (formed.of-Set (has_constants vars) p target value) ∙ f)) b here
         ∙ sym (ap (λ os. some_names os b) (named.of-Set vars p target value))
     drives_step (typed.later {p} {target} {value} {ts} {a} dt dv) f b here =
         drives_later ts a b
-        ∙ named_targets vars dt (left_true (has_constants vars target) (has_constants vars value) (sym (formed.of-Later (has_constants vars) p target value) ∙ f)) b here
+        ∙ named_targets vars dt (left_true (has_constants vars target) (has_constants vars value)
+        (sym (formed.of-Later (has_constants vars) p target value) ∙ f)) b here
         ∙ sym (ap (λ os. some_names os b) (named.of-Later vars p target value))
     drives_step (typed.show {p} {text} {values} {pieces} d) f b here =
         drives_show pieces b ∙ sym (ap (λ os. some_names os b) (named.of-Show vars p text values))

@@ -82,7 +82,8 @@ module _ (vars : List FlatVar) where
     }
     flat_fixed {env} (form.of_variable {name} {n} {v} p q) = record {
       fixes = λ h. fixed-Var vars n;
-      constants = λ h. never (known (constants.is_constant (env.look name)) (ap constants.is_constant p) (sym (ap (λ c. is_wrong c.read.wrong) (says.of-Name env name)) ∙ h));
+      constants = λ h. never (known (constants.is_constant (env.look name)) (ap constants.is_constant p)
+          (sym (ap (λ c. is_wrong c.read.wrong) (says.of-Name env name)) ∙ h));
     }
     flat_fixed {env} (form.of_constant {name} {w} {x} {sg} p) = record {
       fixes = λ h. fixed-Number vars w sg x 0;

@@ -24,7 +24,8 @@ module _ (test : FlatExpr → Bool) where
   of-stmt : (p : Place) (what : FlatKind) → is_formed test (stmt p what) ≡ kinds what
   of-stmt p what = fold-roll-FlatStmt Bool FormedArm Bool (kind_formed test) (arm_formed test) of_placed (record { place = p; what = what })
 
-  pub of-arm : (p : Place) (items : List FlatExpr) (body : FlatStmt) → arms (case_arm p items body) ≡ record { is_default = is_default items; formed = list_all test items && is_formed test body }
+  pub of-arm : (p : Place) (items : List FlatExpr) (body : FlatStmt) → arms (case_arm p items body) ≡ record
+      { is_default = is_default items; formed = list_all test items && is_formed test body }
   of-arm p items body = fold-roll-FlatArm Bool FormedArm Bool (kind_formed test) (arm_formed test) of_placed (record { place = p; items = items; body = body })
 
   pub of-Empty : (p : Place) → is_formed test (stmt p (v.Empty)) ≡ kind_formed test (k.Empty)

@@ -1,5 +1,6 @@
 -- The bodies of the flat source of some files are well formed, since no rule refuses a spot of the walk.
-use Rattle.std.proofs.Common.{◌≡◌, ◌∙◌, sym, ap, ap₂, refl, subst, ℕ, suc, arith, Bool, true, false, ◌&&◌, List, [], ◌∷◌, ◌++◌, map, Option, Some, None, inl, inr, if◌then◌else◌, append-nil}
+use Rattle.std.proofs.Common.{◌≡◌, ◌∙◌, sym, ap, ap₂, refl, subst, ℕ, suc, arith, Bool, true, false, ◌&&◌, List, [], ◌∷◌}
+use Rattle.std.proofs.Common.{◌++◌, map, Option, Some, None, inl, inr, if◌then◌else◌, append-nil}
 use Rattle.std.specs.Prelude.{Contains}
 use Rattle.std.proofs.lemmas.Bool.{cases_Bool}
 use Rattle.std.specs.List.{list_all, filter_map, cons_option, AllByRecursion, AllZip}
@@ -36,9 +37,11 @@ use Rattle.flat_source_meaning.specs.Clocks.{Keeps}
 use Rattle.flat_source_meaning.specs.Clocks as keeping
 use Rattle.flat_source_meaning.specs.Copies.{Copy, IsCopied}
 use Rattle.flat_source_meaning.specs.Variables.{Source}
-use Rattle.flat_source_meaning.specs.Processes.{Process, initially, always, assigns, covers, always_kind, wire_process, item_processes, by_direction, connection}
+use Rattle.flat_source_meaning.specs.Processes.{Process, initially, always, assigns, covers, always_kind}
+use Rattle.flat_source_meaning.specs.Processes.{wire_process, item_processes, by_direction, connection}
 use Rattle.flat_source_meaning.specs.Processes.{HasProcesses, of_item, of_instance, of_other, AreProcesses, none, more}
-use Rattle.flat_source_meaning.specs.FlatSpots.{FlatSpot, at_item, at_copy, own_spots, Body, body_at, body_of, with_body, Read, AreSpots, without_process, with_process}
+use Rattle.flat_source_meaning.specs.FlatSpots.{FlatSpot, at_item, at_copy, own_spots, Body, body_at, body_of, with_body}
+use Rattle.flat_source_meaning.specs.FlatSpots.{Read, AreSpots, without_process, with_process}
 use Rattle.flat_source_meaning.specs.FlatSpots as spots
 use Rattle.flat_source_meaning.specs.FlatNames.{item_reads, item_targets, reads, other_connections, targets as targets_at, unless_handed}
 use Rattle.flat_source_meaning.specs.FlatRefusals.{NoRule, not_constant}
@@ -335,4 +338,5 @@ flat_bodies_are_formed files top clock flat h =
     let w = h.w in
     let joined = connected w.design (join_test w) h.source.walk.walked (items_joined w w.vs h.calm.spots h.calm.whole h.calm.calm) in
     let calm = all_calm w h.flat_of.found h.calm.whole h.calm.calm joined in
-    subst (λ vars. AllByRecursion (IsFormed vars) flat.processes) (sym h.flat_of.variables) (all_formed w.vars h.flat_of.all flat.processes h.flat_of.processes calm h.flat_of.have)
+    subst (λ vars. AllByRecursion (IsFormed vars) flat.processes) (sym h.flat_of.variables)
+    (all_formed w.vars h.flat_of.all flat.processes h.flat_of.processes calm h.flat_of.have)

@@ -256,7 +256,8 @@ module _ (vars : List FlatVar) where
         (and_from (flat.has_constants vars b) (one_default (defaults fl))
         ((flat_fixed vars dt).fixes (left_true (has_constants inside.env on) (list_all (has_constants inside.env) items) own)) (one_of ds x.2))
         (formed_arms ds k.copied k.calm (right_true (has_constants inside.env on) (list_all (has_constants inside.env) items) own) x.2)
-    formed_stmt {inside} {arms = xs} (form.loop {p = p} {name = name} {step_name = step_name} {from = from} {test = test} {step = step} {body = body} {values = values}
+    formed_stmt {inside} {arms = xs}
+        (form.loop {p = p} {name = name} {step_name = step_name} {from = from} {test = test} {step = step} {body = body} {values = values}
         {flat = fl} q ds) c calm h =
         let e = layer_of p (s.For name from test step_name step body) ∙ s.outs-For name from test step_name step body in
         let head : ProcessLoop = record { name = name; from = from; test = test; step_name = step_name; step = step; body = body } in
@@ -290,7 +291,8 @@ module _ (vars : List FlatVar) where
         → PassesHaveArms inside.env k.name ns k.body arms → list_all (λ x. x) (map is_well fl) ≡ true
     formed_passes form.no_passes c calm h = refl
     formed_passes {inside} {k} (form.more_passes {one = one} {others = others} d ds) (turn {n = n} {cs = xs} {ds = ys} c more) calm (a.turn h hs) =
-        and_from (is_well one) (list_all (λ x. x) (map is_well others)) (formed_stmt {inside = inside_pass inside k.name n} d c (facts_left IsCalmCopy xs ys calm) h)
+        and_from (is_well one) (list_all (λ x. x) (map is_well others))
+        (formed_stmt {inside = inside_pass inside k.name n} d c (facts_left IsCalmCopy xs ys calm) h)
         (formed_passes {k = k} ds more (facts_right IsCalmCopy xs ys calm) hs)
 
     formed_arms : {inside : Inside} {all : List CaseArm} {fl : List FlatArm} {cs : List Copy} {arms : Arms} {d : Option Arms}

@@ -1,5 +1,6 @@
 -- Two states that hold the same words: a meaning has one value in both; and the state of variables without words.
-use Rattle.std.proofs.Common.{◌≡◌, ◌∙◌, sym, ap, ap₂, refl, ℕ, zero, suc, Bool, ◌&&◌, List, [], ◌∷◌, map, Option, Some, None, is_some, true≢false, ℤ, pos, negsuc}
+use Rattle.std.proofs.Common.{◌≡◌, ◌∙◌, sym, ap, ap₂, refl, ℕ, zero, suc, Bool, ◌&&◌, List, [], ◌∷◌, map}
+use Rattle.std.proofs.Common.{Option, Some, None, is_some, true≢false, ℤ, pos, negsuc}
 use Rattle.vlog_tree.specs.declared.operator.UnaryOp.{UnaryOp}
 use Rattle.vlog_tree.specs.declared.operator.UnaryOp.TheVariants as unary
 use Rattle.vlog_tree.specs.declared.operator.BinaryOp.{BinaryOp}

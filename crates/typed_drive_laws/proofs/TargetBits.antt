@@ -1,5 +1,6 @@
 -- The typed form of a target names the bits that the target names.
-use Rattle.std.proofs.Common.{◌≡◌, ◌∙◌, sym, ap, ap₂, refl, subst, arith, ℕ, zero, suc, Bool, true, false, ◌&&◌, ◌||◌, not, ◌==◌, nat_lt, if◌then◌else◌, List, [], ◌∷◌, map}
+use Rattle.std.proofs.Common.{◌≡◌, ◌∙◌, sym, ap, ap₂, refl, subst, arith, ℕ, zero, suc, Bool, true, false, ◌&&◌, ◌||◌}
+use Rattle.std.proofs.Common.{not, ◌==◌, nat_lt, if◌then◌else◌, List, [], ◌∷◌, map}
 use Rattle.std.proofs.Common.{Option, Some, None, slice_get, is_some, true≢false, ℤ, pos, negsuc, ◌+ℤ◌, ◌-ℤ◌, ◌<◌, int_le, int_lt}
 use Rattle.std.specs.List.{list_any, list_all}
 use Rattle.std.specs.Ordering.{int_eq}
@@ -149,7 +150,9 @@ module _ (vars : List FlatVar) where
     named_targets (typed.word {k} {v} {i} {a} p d) f =
         let the_word = word_selects vars (blank vars) (blank_widths vars) k v i a p (keeps_alone vars (blank vars) (blank_widths vars) d) in
         let at = index v.word_low (signed vars i) a in
-        let fi = sym (fixed-At vars i) ∙ right_true (fixed vars (e.Var k)) (fixed_select vars (select.At i)) (sym (fixed-Select vars (e.Var k) (select.At i)) ∙ f) in
+        let fi =
+        sym (fixed-At vars i) ∙ right_true (fixed vars (e.Var k)) (fixed_select vars (select.At i))
+        (sym (fixed-Select vars (e.Var k) (select.At i)) ∙ f) in
         subst (λ x. NameAlike x.objects (target.Word k at ∷ [])) (sym the_word.means)
         (one_target the_word.object (target.Word k at)
         (λ b here. names_whole (k == b.var) _ _ (nat_lt b.place v.width)
@@ -161,7 +164,8 @@ module _ (vars : List FlatVar) where
         subst (λ x. NameAlike x.objects (target.Part k w at ∷ [])) (sym the_part.means)
         (one_target the_part.object (target.Part k w at)
         (λ b here. names_part (k == b.var) _ (b.word == 0) (nat_lt b.place v.width) _ _ (first_word b.word) (in_width k v p.0 b here)
-        (places_named at (sel.position v.low (selection_of vars which)) w (sel.width_of (selection_of vars which)) b.place (place_spot v.low which w at d fs) q.width)))
+        (places_named at (sel.position v.low (selection_of vars which)) w (sel.width_of (selection_of vars which)) b.place
+        (place_spot v.low which w at d fs) q.width)))
     named_targets (typed.word_part {w} k {v} i {s = which} {a} {at} p da d) f =
         let q = keeps_position vars (blank vars) (blank_widths vars) d in
         let the_part = word_part_selects vars (blank vars) (blank_widths vars) k w v i which a at p (keeps_alone vars (blank vars) (blank_widths vars) da) q in
@@ -175,7 +179,8 @@ module _ (vars : List FlatVar) where
         (one_target the_part.object (target.WordPart k word w at)
         (λ b here. names_part (k == b.var) _ _ (nat_lt b.place v.width) _ _
         (words_named word (less (mean i) (pos v.word_low)) b.word (word_spot i v.word_low a da fi)) (in_width k v p.0 b here)
-        (places_named at (sel.position v.low (selection_of vars which)) w (sel.width_of (selection_of vars which)) b.place (place_spot v.low which w at d fw) q.width)))
+        (places_named at (sel.position v.low (selection_of vars which)) w (sel.width_of (selection_of vars which)) b.place
+        (place_spot v.low which w at d fw) q.width)))
     named_targets (typed.join {parts} {ts} d) f =
         subst (λ x. NameAlike x.objects ts) (sym (of-Join vars parts)) (named_of_all d (sym (fixed-Join vars parts) ∙ f))
 

@@ -3,7 +3,8 @@
 ghost use Rattle.std.specs.Prelude.{◌≡◌, ℕ, List, Result};
 ghost use Rattle.vlog_lexer.specs.Origins.{FaultFromOne, TokensFromOne};
 ghost use Rattle.vlog_lexer.specs.Reading.{IsReadingOf};
-ghost use Rattle.vlog_lexer.specs.Spellings.{BasedAreTaken, DecimalsAreTaken, NamesAreLongest, NamesAreTaken, StringsAreTaken, SystemNamesAreTaken, WideDecimals};
+ghost use Rattle.vlog_lexer.specs.Spellings.{BasedAreTaken, DecimalsAreTaken, NamesAreLongest, NamesAreTaken, StringsAreTaken};
+ghost use Rattle.vlog_lexer.specs.Spellings.{SystemNamesAreTaken, WideDecimals};
 ghost use Rattle.vlog_lexer.specs.declared.fault.LexFault.{LexFault};
 ghost use Rattle.vlog_tokens.specs.declared.token_list.TokenList.{TokenList};
 

@@ -12,7 +12,7 @@ mod piece;
 mod position;
 mod quoted;
 mod reading;
-mod sending;
+mod threads;
 
 pub use cov_types::{ByteText, LimitName, NoMemory, Place, Pragma, PragmaKind, Rows};
 pub use fault::LexFault;

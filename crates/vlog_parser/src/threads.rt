@@ -1,8 +1,7 @@
 use crate::fault::SyntaxFault;
+use cov_types::crosses_threads;
 
-fn crosses_threads<T: Send + Sync>(_value: &T) {}
-
-// The faults of this crate are Send and Sync.
-fn all_cross_threads(fault: &SyntaxFault) {
-    crosses_threads(fault);
+/// The faults of this crate cross threads.
+fn faults_cross_threads() {
+    crosses_threads::<SyntaxFault>();
 }

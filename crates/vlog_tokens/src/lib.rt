@@ -1,7 +1,7 @@
 //! The tokens of Verilog text.
 #![tactic(auto)]
 
-mod sending;
+mod threads;
 mod token;
 mod token_list;
 

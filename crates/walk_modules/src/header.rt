@@ -28,7 +28,8 @@ pub fn past_parameter<'a>(
 ) -> Result<(), NoMemory>
     ensures { (design : List Module) (top : List ℕ) (done : Visits) (here : Here) (place : At) (a : Item) (under : List Task)
         → IsOpening design top done here place (past place a (map seen_constant constants)) of.now (a_header here of.now (a ∷ rest.now) ∷ under) under walk.old
-        → IsTaken design here (with_next place walk.old.next) a → declared_constants here (with_next place walk.old.next) (layer a) ≡ Some (map seen_constant constants)
+        → IsTaken design here (with_next place walk.old.next) a → declared_constants here (with_next place walk.old.next) (layer a) ≡ Some
+        (map seen_constant constants)
         → OnOk result (IsOnWay design top walk.new) }
 {
     walk.records.push(Record::HasConstants {

@@ -43,7 +43,8 @@ pub fn past_parameters(
 ) -> Result<(), NoMemory>
     ensures { (design : List Module) (top : List ℕ) (done : Visits) (here : Here) (place : At) (a : Item) (rest : List Item) (under : List Task)
         (local : Bool) (form : ParamForm) (names : List ParamName)
-        → IsMidway design top done here place (past place a (map seen_constant constants)) (some_items here (a ∷ rest) ∷ under) (some_items here rest ∷ under) walk.old
+        → IsMidway design top done here place (past place a (map seen_constant constants)) (some_items here (a ∷ rest) ∷ under)
+        (some_items here rest ∷ under) walk.old
         → item ≡ place.item → IsTaken design here (with_next place walk.old.next) a → layer a ≡ i.Parameter local form names
         → constants_of here (with_next place walk.old.next) local form names ≡ Some (map seen_constant constants)
         → OnOk result (IsOnWay design top walk.new) }

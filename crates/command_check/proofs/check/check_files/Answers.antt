@@ -31,7 +31,15 @@ returns-in-Ok-modules_line g c =
     let names = seen c.args.names.now in
     let within = few c.args.names.now (sym c.are_too_many.ensures ∙ c.if-are_too_many.false) in
     let counted = rw c.as_slice.ensures at c.in-Ok-count_modules.ensures.ok in
-    let finished = rw (c.as_slice-in-Ok-modules_line.ensures, c.in-Ok-modules_line.ensures, c.no_stores.ensures, counted.2, c.in-Ok.ensures.held, c.in-Ok.ensures.ok_quiet) at c.finish.ensures in
+    let finished =
+    rw (
+      c.as_slice-in-Ok-modules_line.ensures,
+      c.in-Ok-modules_line.ensures,
+      c.no_stores.ensures,
+      counted.2,
+      c.in-Ok.ensures.held,
+      c.in-Ok.ensures.ok_quiet,
+    ) at c.finish.ensures in
     record { leaves = saying_leaves names c.in-Ok.texts counted.0 _ _ c.finish.result within c.in-Ok.ensures.ok counted.1 finished }
 
 pub returns : goal.returns

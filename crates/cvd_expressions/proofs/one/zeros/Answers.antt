@@ -4,7 +4,8 @@ use Rattle.cvd_expressions.proofs.one.zeros.Goals as goal
 
 pub returns-then-not-may_extend : goal.returns-then-not-may_extend
 returns-then-not-may_extend c = λ d h.
-    none_of d _ (typed_zeros d c.args.width c.args.of.tree _ _ (operand d c.args.of h c.args.of.tree refl) ∙ sym c.may_extend.ensures ∙ c.if-not-may_extend.true)
+    none_of d _ (typed_zeros d c.args.width c.args.of.tree _ _ (operand d c.args.of h c.args.of.tree refl) ∙ sym c.may_extend.ensures ∙
+    c.if-not-may_extend.true)
 
 pub returns : goal.returns
 returns c =

@@ -45,7 +45,9 @@ pub returns-in_err-next : goal.returns-in_err-next
 returns-in_err-next c =
     let l = c.inputs in
     let g = l.invariant.goes in
-    let less = more Input (each c.args.vars.now) (codes "inputs") (may_be c.args.vars.now) (section c.args.vars.now) c.len.result l.kept c.wants_more.result c.in_ok-count.count c.args.cursor.now l.cursor g c.len.ensures c.wants_more.ensures
+    let less =
+    more Input (each c.args.vars.now) (codes "inputs") (may_be c.args.vars.now) (section c.args.vars.now) c.len.result l.kept c.wants_more.result
+    c.in_ok-count.count c.args.cursor.now l.cursor g c.len.ensures c.wants_more.ensures
     c.inputs-test.true in
     let may = c.may_stand-may_stand.ensures g.n g.count ∙ ap (λ k. nat_lt (k + 1) g.n || (k + 1) == c.count_inputs-all.result) c.len-in-inputs.ensures
     ∙ ap (λ k. nat_lt (length l.kept + 1) g.n || (length l.kept + 1) == k) c.count_inputs-all.ensures in
@@ -58,7 +60,9 @@ pub inputs-preserved : goal.inputs-preserved
 inputs-preserved c =
     let l = c.inputs in
     let g = l.invariant.goes in
-    let less = more Input (each c.args.vars.now) (codes "inputs") (may_be c.args.vars.now) (section c.args.vars.now) c.len.result l.kept c.wants_more.result c.in_ok-count.count c.args.cursor.now l.cursor g c.len.ensures c.wants_more.ensures
+    let less =
+    more Input (each c.args.vars.now) (codes "inputs") (may_be c.args.vars.now) (section c.args.vars.now) c.len.result l.kept c.wants_more.result
+    c.in_ok-count.count c.args.cursor.now l.cursor g c.len.ensures c.wants_more.ensures
     c.inputs-test.true in
     let may = c.may_stand-may_stand.ensures g.n g.count ∙ ap (λ k. nat_lt (k + 1) g.n || (k + 1) == c.count_inputs-all.result) c.len-in-inputs.ensures
     ∙ ap (λ k. nat_lt (length l.kept + 1) g.n || (length l.kept + 1) == k) c.count_inputs-all.ensures in

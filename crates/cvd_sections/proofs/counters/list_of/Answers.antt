@@ -44,5 +44,7 @@ returns c =
     let other : bytes_eq c.args.word.now (codes "-") ≡ false = sym (c.if-eq.ensures ∙ ap (bytes_eq c.args.word.now) c.as_slice.ensures) in
     let rest = c.parts.rest.now in
     let some = subst (HoldsNumber c.args.counters rest) c.in-Some-counter_of-2.is c.counter_of-2.ensures in
-    let all = list_ends c.args.counters c.args.word.now rest c.parts.kept c.parts.invariant other c.in-Some-counter_of-2.counter c.in_default.ensures some.0 some.1 in
+    let all =
+    list_ends c.args.counters c.args.word.now rest c.parts.kept c.parts.invariant other c.in-Some-counter_of-2.counter c.in_default.ensures some.0
+    some.1 in
     (c.in_ok-push-2.ensures.ok ∙ all.0, all.1)

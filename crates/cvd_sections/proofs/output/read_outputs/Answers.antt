@@ -43,7 +43,9 @@ pub returns-in_err-output : goal.returns-in_err-output
 returns-in_err-output c =
     let l = c.loop-count in
     let g = l.invariant.goes in
-    let less = more ℕ (each c.args.vars.now) (codes "outputs") (λ n. true) (section c.args.vars.now) c.len.result l.kept c.wants_more.result c.in_ok-count.count c.args.cursor.now l.cursor g
+    let less =
+    more ℕ (each c.args.vars.now) (codes "outputs") (λ n. true) (section c.args.vars.now) c.len.result l.kept c.wants_more.result c.in_ok-count.count
+    c.args.cursor.now l.cursor g
     c.len.ensures c.wants_more.ensures c.loop-count-test.true in
     let p = err_from_is_err_and c.from_residual-in_err-output.result c.from_residual-in_err-output.ensures.1 in
     rw (p.1, p.2) (one_refused ℕ (each c.args.vars.now) (codes "outputs") (λ n. true) (section c.args.vars.now) (alike c.args.vars.now) 0
@@ -54,7 +56,9 @@ pub loop-count-preserved : goal.loop-count-preserved
 loop-count-preserved c =
     let l = c.loop-count in
     let g = l.invariant.goes in
-    let less = more ℕ (each c.args.vars.now) (codes "outputs") (λ n. true) (section c.args.vars.now) c.len.result l.kept c.wants_more.result c.in_ok-count.count c.args.cursor.now l.cursor g
+    let less =
+    more ℕ (each c.args.vars.now) (codes "outputs") (λ n. true) (section c.args.vars.now) c.len.result l.kept c.wants_more.result c.in_ok-count.count
+    c.args.cursor.now l.cursor g
     c.len.ensures c.wants_more.ensures c.loop-count-test.true in
     let r = c.in_ok-output.ensures l.kept l.invariant.last in
     let pushed = c.in_ok-push.ensures.ok ∙ ap (λ x. l.kept ++ x ∷ []) r.1.1 in

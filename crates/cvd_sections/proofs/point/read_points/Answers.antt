@@ -53,7 +53,9 @@ returns-in_err-point c =
     let l = c.points in
     let g = l.invariant.goes in
     let last = subst (λ o. IsLastOf is_below (λ (p : PointRow). p.key) l.kept o) (sym (c.last_key.ensures ∙ ap last_key c.as_slice.ensures)) l.invariant.last in
-    let less = more PointRow (each c.args.counters) (codes "points") may_be (section c.args.counters) c.len.result l.kept c.wants_more.result c.in_ok-count.count c.args.cursor.now l.cursor g c.len.ensures c.wants_more.ensures
+    let less =
+    more PointRow (each c.args.counters) (codes "points") may_be (section c.args.counters) c.len.result l.kept c.wants_more.result c.in_ok-count.count
+    c.args.cursor.now l.cursor g c.len.ensures c.wants_more.ensures
     c.points-test.true in
     let p = err_from_is_err_and c.from_residual-in_err-point.result c.from_residual-in_err-point.ensures.1 in
     rw (p.1, p.2) (next_halts PointRow (each c.args.counters) (codes "points") may_be (section c.args.counters) (alike c.args.counters) some_point
@@ -65,7 +67,9 @@ points-preserved c =
     let l = c.points in
     let g = l.invariant.goes in
     let last = subst (λ o. IsLastOf is_below (λ (p : PointRow). p.key) l.kept o) (sym (c.last_key.ensures ∙ ap last_key c.as_slice.ensures)) l.invariant.last in
-    let less = more PointRow (each c.args.counters) (codes "points") may_be (section c.args.counters) c.len.result l.kept c.wants_more.result c.in_ok-count.count c.args.cursor.now l.cursor g c.len.ensures c.wants_more.ensures
+    let less =
+    more PointRow (each c.args.counters) (codes "points") may_be (section c.args.counters) c.len.result l.kept c.wants_more.result c.in_ok-count.count
+    c.args.cursor.now l.cursor g c.len.ensures c.wants_more.ensures
     c.points-test.true in
     let r = c.in_ok-point.ensures l.kept last in
     let pushed = c.in_ok-push.ensures.ok ∙ ap (λ x. l.kept ++ x ∷ []) r.1.1 in

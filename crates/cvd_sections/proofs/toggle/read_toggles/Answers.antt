@@ -47,7 +47,9 @@ pub returns-in_err-entry : goal.returns-in_err-entry
 returns-in_err-entry c =
     let l = c.loop-count in
     let g = l.invariant.goes in
-    let less = more ToggleEntry (each c.args.vars.now c.args.counters) (codes "toggles") (λ n. true) (section c.args.vars.now c.args.counters) c.len.result l.kept c.wants_more.result c.in_ok-count.count c.args.cursor.now l.cursor g
+    let less =
+    more ToggleEntry (each c.args.vars.now c.args.counters) (codes "toggles") (λ n. true) (section c.args.vars.now c.args.counters) c.len.result l.kept
+    c.wants_more.result c.in_ok-count.count c.args.cursor.now l.cursor g
     c.len.ensures c.wants_more.ensures c.loop-count-test.true in
     let p = err_from_is_err_and c.from_residual-in_err-entry.result c.from_residual-in_err-entry.ensures.1 in
     rw (p.1, p.2) (one_refused ToggleEntry (each c.args.vars.now c.args.counters) (codes "toggles") (λ n. true) (section c.args.vars.now c.args.counters)
@@ -58,7 +60,9 @@ pub loop-count-preserved : goal.loop-count-preserved
 loop-count-preserved c =
     let l = c.loop-count in
     let g = l.invariant.goes in
-    let less = more ToggleEntry (each c.args.vars.now c.args.counters) (codes "toggles") (λ n. true) (section c.args.vars.now c.args.counters) c.len.result l.kept c.wants_more.result c.in_ok-count.count c.args.cursor.now l.cursor g
+    let less =
+    more ToggleEntry (each c.args.vars.now c.args.counters) (codes "toggles") (λ n. true) (section c.args.vars.now c.args.counters) c.len.result l.kept
+    c.wants_more.result c.in_ok-count.count c.args.cursor.now l.cursor g
     c.len.ensures c.wants_more.ensures c.loop-count-test.true in
     let r = c.in_ok-entry.ensures l.kept l.invariant.last in
     let pushed = c.in_ok-push.ensures.ok ∙ ap (λ x. l.kept ++ x ∷ []) r.1.1 in

@@ -9,6 +9,7 @@ use Rattle.elab_parameters.proofs.Readings.{IsReading}
 use Rattle.elab_parameters.proofs.declaration.read_parameters.Given as goal
 
 abbrev pub invariant-loop-of : goal.invariant-loop-of
-invariant-loop-of l = (here : Here) (at : At) (before : Names) (form : ParamForm) → AreFrames (frames here at) l.initial.names.items → AreGiven here.given l.given
+invariant-loop-of l = (here : Here) (at : At) (before : Names) (form : ParamForm) → AreFrames (frames here at) l.initial.names.items → AreGiven here.given
+    l.given
     → HasSize before form l.size
     → IsReading here at before l.local form l.declared (drop l.of-index l.declared) l.found l.names.items

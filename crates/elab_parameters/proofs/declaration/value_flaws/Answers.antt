@@ -12,7 +12,8 @@ use Rattle.elab_parameters.proofs.declaration.value_flaws.Goals as goal
 
 pub loop-of-preserved : goal.loop-of-preserved
 loop-of-preserved g c = λ here known same given.
-    also_more here c.args.local known (IsConstantOf here known c.args.local size.Own c.of-item.result) c.args.declared.now c.loop-of.of-index c.of-item.result c.loop-of.so_far c.parameter_value.result c.also-so_far.result
+    also_more here c.args.local known (IsConstantOf here known c.args.local size.Own c.of-item.result) c.args.declared.now c.loop-of.of-index
+    c.of-item.result c.loop-of.so_far c.parameter_value.result c.also-so_far.result
     c.loop-of-test.true c.of-item.is c.also-so_far.ensures (c.loop-of.invariant here known same given) (c.parameter_value.ensures here known same given)
 
 pub returns : goal.returns

@@ -24,14 +24,16 @@ loop-at-init c = record {
 
 pub least_shared-requires : goal.least_shared-requires
 least_shared-requires c =
-    let lt : c.loop-at.at < length c.args.design.now.processes = subst (λ (ps : List Process). c.loop-at.at < length ps) c.as_slice-processes.ensures c.loop-at-test.true in
+    let lt : c.loop-at.at < length c.args.design.now.processes =
+    subst (λ (ps : List Process). c.loop-at.at < length ps) c.as_slice-processes.ensures c.loop-at-test.true in
     let u : AreUsesOf c.args.design.now c.loop-at.at c.index-uses-at.result =
     used_at c.args.design.now c.args.uses.now c.requires.many c.requires.uses c.loop-at.at c.index-uses-at.result lt c.index-uses-at.is in
     all_marked c.args.design.now c.loop-at.at c.index-uses-at.result lt u c.loop-at.driven c.loop-at.invariant.driven
 
 pub returns-in-Some : goal.returns-in-Some
 returns-in-Some c =
-    let lt : c.loop-at.at < length c.args.design.now.processes = subst (λ (ps : List Process). c.loop-at.at < length ps) c.as_slice-processes.ensures c.loop-at-test.true in
+    let lt : c.loop-at.at < length c.args.design.now.processes =
+    subst (λ (ps : List Process). c.loop-at.at < length ps) c.as_slice-processes.ensures c.loop-at-test.true in
     let u : AreUsesOf c.args.design.now c.loop-at.at c.index-uses-at.result =
     used_at c.args.design.now c.args.uses.now c.requires.many c.requires.uses c.loop-at.at c.index-uses-at.result lt c.index-uses-at.is in
     let k : (get_or c.as_slice-processes.result.now c.loop-at.at c.index-processes-at.result).kind ≡ kind_of c.args.design.now c.loop-at.at =
@@ -46,14 +48,16 @@ returns-in-Some c =
 
 pub drive-requires : goal.drive-requires
 drive-requires c =
-    let lt : c.loop-at.at < length c.args.design.now.processes = subst (λ (ps : List Process). c.loop-at.at < length ps) c.as_slice-processes.ensures c.loop-at-test.true in
+    let lt : c.loop-at.at < length c.args.design.now.processes =
+    subst (λ (ps : List Process). c.loop-at.at < length ps) c.as_slice-processes.ensures c.loop-at-test.true in
     let u : AreUsesOf c.args.design.now c.loop-at.at c.index-uses-at-in-None.result =
     used_at c.args.design.now c.args.uses.now c.requires.many c.requires.uses c.loop-at.at c.index-uses-at-in-None.result lt c.index-uses-at-in-None.is in
     all_marked c.args.design.now c.loop-at.at c.index-uses-at-in-None.result lt u c.loop-at.driven c.loop-at.invariant.driven
 
 pub loop-at-preserved : goal.loop-at-preserved
 loop-at-preserved c =
-    let lt : c.loop-at.at < length c.args.design.now.processes = subst (λ (ps : List Process). c.loop-at.at < length ps) c.as_slice-processes.ensures c.loop-at-test.true in
+    let lt : c.loop-at.at < length c.args.design.now.processes =
+    subst (λ (ps : List Process). c.loop-at.at < length ps) c.as_slice-processes.ensures c.loop-at-test.true in
     let u : AreUsesOf c.args.design.now c.loop-at.at c.index-uses-at.result =
     used_at c.args.design.now c.args.uses.now c.requires.many c.requires.uses c.loop-at.at c.index-uses-at.result lt c.index-uses-at.is in
     let u2 : AreUsesOf c.args.design.now c.loop-at.at c.index-uses-at-in-None.result =
@@ -73,6 +77,7 @@ loop-at-preserved c =
 
 pub returns : goal.returns
 returns c =
-    let past : length c.args.design.now.processes ≤ c.loop-at.at = subst (λ (ps : List Process). length ps ≤ c.loop-at.at) c.as_slice-processes.ensures c.loop-at-test.false in
+    let past : length c.args.design.now.processes ≤ c.loop-at.at =
+    subst (λ (ps : List Process). length ps ≤ c.loop-at.at) c.as_slice-processes.ensures c.loop-at-test.false in
     before_all HasTwoDrivers c.args.design.now (length c.args.design.now.processes) c.loop-at.at past (λ q w le. none_past c.args.design.now q w le)
     c.loop-at.invariant.kept

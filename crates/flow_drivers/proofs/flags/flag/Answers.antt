@@ -6,7 +6,8 @@ use Rattle.flow_drivers.proofs.flags.flag.Goals as goal
 
 pub loop-span-preserved : goal.loop-span-preserved
 loop-span-preserved c =
-    let inside : (get_or c.args.spans.now c.loop-span.span-index (record { var = 0; word = 0; word_end = 0; place = 0; place_end = 0 })).var < length c.loop-span.flags =
+    let inside : (get_or c.args.spans.now c.loop-span.span-index (record { var = 0; word = 0; word_end = 0; place = 0; place_end = 0 })).var < length
+    c.loop-span.flags =
     omega (arith, c.requires c.loop-span.span-index (record { var = 0; word = 0; word_end = 0; place = 0; place_end = 0 }) c.loop-span-test.true) in
     flag_next c.args.spans.now c.loop-span.span-index (record { var = 0; word = 0; word_end = 0; place = 0; place_end = 0 }) c.loop-span-test.true
     c.loop-span.flags c.args.flags.now c.args.value inside c.loop-span.invariant

@@ -16,7 +16,8 @@ use Rattle.flow_drivers.proofs.mixed.mixed_driver.Goals as goal
 
 pub least_mixed-requires-clause-within : goal.least_mixed-requires-clause-within
 least_mixed-requires-clause-within c =
-    let lt : c.loop-at.at < length c.args.design.now.processes = subst (λ (ps : List Process). c.loop-at.at < length ps) c.as_slice-processes.ensures c.loop-at-test.true in
+    let lt : c.loop-at.at < length c.args.design.now.processes =
+    subst (λ (ps : List Process). c.loop-at.at < length ps) c.as_slice-processes.ensures c.loop-at-test.true in
     let u : AreUsesOf c.args.design.now c.loop-at.at c.index-uses-at.result =
     used_at c.args.design.now c.args.uses.now c.requires.many c.requires.uses c.loop-at.at c.index-uses-at.result lt c.index-uses-at.is in
     within_vars c.args.design.now c.loop-at.at c.index-uses-at.result (length c.as_mut_slice.result.now) (ap length c.as_mut_slice.ensures.value
@@ -24,26 +25,32 @@ least_mixed-requires-clause-within c =
 
 pub returns-in-Some : goal.returns-in-Some
 returns-in-Some c =
-    let lt : c.loop-at.at < length c.args.design.now.processes = subst (λ (ps : List Process). c.loop-at.at < length ps) c.as_slice-processes.ensures c.loop-at-test.true in
+    let lt : c.loop-at.at < length c.args.design.now.processes =
+    subst (λ (ps : List Process). c.loop-at.at < length ps) c.as_slice-processes.ensures c.loop-at-test.true in
     let u : AreUsesOf c.args.design.now c.loop-at.at c.index-uses-at.result =
     used_at c.args.design.now c.args.uses.now c.requires.many c.requires.uses c.loop-at.at c.index-uses-at.result lt c.index-uses-at.is in
     let k : (get_or c.as_slice-processes.result.now c.loop-at.at c.index-processes-at.result).kind ≡ kind_of c.args.design.now c.loop-at.at =
     ap (λ (x : Process). x.kind) (sym c.index-processes-at.is) ∙ kind_at c.args.design.now c.loop-at.at c.index-processes-at.result lt
     (subst (λ (ps : List Process). c.index-processes-at.result
     ≡ get_or ps c.loop-at.at c.index-processes-at.result) c.as_slice-processes.ensures c.index-processes-at.is) in
-    let l : IsLeastOf (IsMixed c.args.design.now c.loop-at.at) (Some c.in-Some.var) = mixed_is c.args.design.now c.loop-at.at c.index-uses-at.result u (get_or c.as_slice-processes.result.now c.loop-at.at c.index-processes-at.result).kind k (Some c.in-Some.var) c.in-Some.ensures.least in
+    let l : IsLeastOf (IsMixed c.args.design.now c.loop-at.at) (Some c.in-Some.var) =
+    mixed_is c.args.design.now c.loop-at.at c.index-uses-at.result u
+    (get_or c.as_slice-processes.result.now c.loop-at.at c.index-processes-at.result).kind k (Some c.in-Some.var) c.in-Some.ensures.least in
     first_is IsMixed c.args.design.now c.loop-at.at c.in-Some.var c.loop-at.invariant.kept l.0 l.1
 
 pub loop-at-preserved : goal.loop-at-preserved
 loop-at-preserved c =
-    let lt : c.loop-at.at < length c.args.design.now.processes = subst (λ (ps : List Process). c.loop-at.at < length ps) c.as_slice-processes.ensures c.loop-at-test.true in
+    let lt : c.loop-at.at < length c.args.design.now.processes =
+    subst (λ (ps : List Process). c.loop-at.at < length ps) c.as_slice-processes.ensures c.loop-at-test.true in
     let u : AreUsesOf c.args.design.now c.loop-at.at c.index-uses-at.result =
     used_at c.args.design.now c.args.uses.now c.requires.many c.requires.uses c.loop-at.at c.index-uses-at.result lt c.index-uses-at.is in
     let k : (get_or c.as_slice-processes.result.now c.loop-at.at c.index-processes-at.result).kind ≡ kind_of c.args.design.now c.loop-at.at =
     ap (λ (x : Process). x.kind) (sym c.index-processes-at.is) ∙ kind_at c.args.design.now c.loop-at.at c.index-processes-at.result lt
     (subst (λ (ps : List Process). c.index-processes-at.result
     ≡ get_or ps c.loop-at.at c.index-processes-at.result) c.as_slice-processes.ensures c.index-processes-at.is) in
-    let l : IsLeastOf (IsMixed c.args.design.now c.loop-at.at) None = mixed_is c.args.design.now c.loop-at.at c.index-uses-at.result u (get_or c.as_slice-processes.result.now c.loop-at.at c.index-processes-at.result).kind k None c.in-None.ensures.least in
+    let l : IsLeastOf (IsMixed c.args.design.now c.loop-at.at) None =
+    mixed_is c.args.design.now c.loop-at.at c.index-uses-at.result u
+    (get_or c.as_slice-processes.result.now c.loop-at.at c.index-processes-at.result).kind k None c.in-None.ensures.least in
     let n : length c.least_mixed.new.flags ≡ length c.loop-at.flags.items = c.least_mixed.auto.flags ∙ ap length c.as_mut_slice.ensures.value in
     let e : c.loop-at.flags.len ≡ length c.loop-at.flags.items = omega (arith, c.loop-at.flags.ok.0) in
     record {
@@ -54,6 +61,7 @@ loop-at-preserved c =
 
 pub returns : goal.returns
 returns c =
-    let past : length c.args.design.now.processes ≤ c.loop-at.at = subst (λ (ps : List Process). length ps ≤ c.loop-at.at) c.as_slice-processes.ensures c.loop-at-test.false in
+    let past : length c.args.design.now.processes ≤ c.loop-at.at =
+    subst (λ (ps : List Process). length ps ≤ c.loop-at.at) c.as_slice-processes.ensures c.loop-at-test.false in
     before_all IsMixed c.args.design.now (length c.args.design.now.processes) c.loop-at.at past (λ q w le. none_mixed c.args.design.now q w le)
     c.loop-at.invariant.kept

@@ -16,7 +16,8 @@ use Rattle.flow_drivers.proofs.private.not_private.Goals as goal
 
 pub least_shared-requires-clause-watches : goal.least_shared-requires-clause-watches
 least_shared-requires-clause-watches c =
-    let lt : c.loop-at.at < length c.args.design.now.processes = subst (λ (ps : List Process). c.loop-at.at < length ps) c.as_slice-processes.ensures c.loop-at-test.true in
+    let lt : c.loop-at.at < length c.args.design.now.processes =
+    subst (λ (ps : List Process). c.loop-at.at < length ps) c.as_slice-processes.ensures c.loop-at-test.true in
     let u : AreUsesOf c.args.design.now c.loop-at.at c.index-uses-at.result =
     used_at c.args.design.now c.args.uses.now c.requires.many c.requires.uses c.loop-at.at c.index-uses-at.result lt c.index-uses-at.is in
     within_vars c.args.design.now c.loop-at.at c.index-uses-at.result (length c.as_slice-in-loop-at.result.now)
@@ -24,7 +25,8 @@ least_shared-requires-clause-watches c =
 
 pub least_shared-requires-clause-outputs : goal.least_shared-requires-clause-outputs
 least_shared-requires-clause-outputs c =
-    let lt : c.loop-at.at < length c.args.design.now.processes = subst (λ (ps : List Process). c.loop-at.at < length ps) c.as_slice-processes.ensures c.loop-at-test.true in
+    let lt : c.loop-at.at < length c.args.design.now.processes =
+    subst (λ (ps : List Process). c.loop-at.at < length ps) c.as_slice-processes.ensures c.loop-at-test.true in
     let u : AreUsesOf c.args.design.now c.loop-at.at c.index-uses-at.result =
     used_at c.args.design.now c.args.uses.now c.requires.many c.requires.uses c.loop-at.at c.index-uses-at.result lt c.index-uses-at.is in
     within_vars c.args.design.now c.loop-at.at c.index-uses-at.result (length c.as_slice-in-loop-at-2.result.now)
@@ -32,7 +34,8 @@ least_shared-requires-clause-outputs c =
 
 pub returns-in-Some : goal.returns-in-Some
 returns-in-Some c =
-    let lt : c.loop-at.at < length c.args.design.now.processes = subst (λ (ps : List Process). c.loop-at.at < length ps) c.as_slice-processes.ensures c.loop-at-test.true in
+    let lt : c.loop-at.at < length c.args.design.now.processes =
+    subst (λ (ps : List Process). c.loop-at.at < length ps) c.as_slice-processes.ensures c.loop-at-test.true in
     let u : AreUsesOf c.args.design.now c.loop-at.at c.index-uses-at.result =
     used_at c.args.design.now c.args.uses.now c.requires.many c.requires.uses c.loop-at.at c.index-uses-at.result lt c.index-uses-at.is in
     let k : (get_or c.as_slice-processes.result.now c.loop-at.at c.index-processes-at.result).kind ≡ kind_of c.args.design.now c.loop-at.at =
@@ -42,7 +45,9 @@ returns-in-Some c =
     let flags : (v : ℕ) → get_or c.in_ok-outputs.outputs.items v false ≡ list_any (λ o. o == v) c.args.design.now.outputs =
     subst (λ (os : List ℕ). (v : ℕ) → get_or c.in_ok-outputs.outputs.items v false
     ≡ list_any (λ o. o == v) os) c.as_slice.ensures c.in_ok-outputs.ensures.flags in
-    let l : IsLeastOf (IsNotPrivate c.args.design.now c.loop-at.at) (Some c.in-Some.var) = private_is c.args.design.now c.in_ok-watches.watches.items c.in_ok-outputs.outputs.items c.in_ok-watches.ensures flags c.loop-at.at c.index-uses-at.result u (get_or c.as_slice-processes.result.now c.loop-at.at c.index-processes-at.result).kind k (Some c.in-Some.var)
+    let l : IsLeastOf (IsNotPrivate c.args.design.now c.loop-at.at) (Some c.in-Some.var) =
+    private_is c.args.design.now c.in_ok-watches.watches.items c.in_ok-outputs.outputs.items c.in_ok-watches.ensures flags c.loop-at.at
+    c.index-uses-at.result u (get_or c.as_slice-processes.result.now c.loop-at.at c.index-processes-at.result).kind k (Some c.in-Some.var)
     (subst (λ (os : List Bool). IsLeastOf
     (IsSeenIn (get_or c.as_slice-processes.result.now c.loop-at.at c.index-processes-at.result).kind c.index-uses-at.result c.in_ok-watches.watches.items
     os c.loop-at.at) (Some c.in-Some.var)) c.as_slice-in-loop-at-2.ensures.value
@@ -53,7 +58,8 @@ returns-in-Some c =
 
 pub loop-at-preserved : goal.loop-at-preserved
 loop-at-preserved c =
-    let lt : c.loop-at.at < length c.args.design.now.processes = subst (λ (ps : List Process). c.loop-at.at < length ps) c.as_slice-processes.ensures c.loop-at-test.true in
+    let lt : c.loop-at.at < length c.args.design.now.processes =
+    subst (λ (ps : List Process). c.loop-at.at < length ps) c.as_slice-processes.ensures c.loop-at-test.true in
     let u : AreUsesOf c.args.design.now c.loop-at.at c.index-uses-at.result =
     used_at c.args.design.now c.args.uses.now c.requires.many c.requires.uses c.loop-at.at c.index-uses-at.result lt c.index-uses-at.is in
     let k : (get_or c.as_slice-processes.result.now c.loop-at.at c.index-processes-at.result).kind ≡ kind_of c.args.design.now c.loop-at.at =
@@ -63,7 +69,9 @@ loop-at-preserved c =
     let flags : (v : ℕ) → get_or c.in_ok-outputs.outputs.items v false ≡ list_any (λ o. o == v) c.args.design.now.outputs =
     subst (λ (os : List ℕ). (v : ℕ) → get_or c.in_ok-outputs.outputs.items v false
     ≡ list_any (λ o. o == v) os) c.as_slice.ensures c.in_ok-outputs.ensures.flags in
-    let l : IsLeastOf (IsNotPrivate c.args.design.now c.loop-at.at) None = private_is c.args.design.now c.in_ok-watches.watches.items c.in_ok-outputs.outputs.items c.in_ok-watches.ensures flags c.loop-at.at c.index-uses-at.result u (get_or c.as_slice-processes.result.now c.loop-at.at c.index-processes-at.result).kind k None
+    let l : IsLeastOf (IsNotPrivate c.args.design.now c.loop-at.at) None =
+    private_is c.args.design.now c.in_ok-watches.watches.items c.in_ok-outputs.outputs.items c.in_ok-watches.ensures flags c.loop-at.at
+    c.index-uses-at.result u (get_or c.as_slice-processes.result.now c.loop-at.at c.index-processes-at.result).kind k None
     (subst (λ (os : List Bool). IsLeastOf
     (IsSeenIn (get_or c.as_slice-processes.result.now c.loop-at.at c.index-processes-at.result).kind c.index-uses-at.result c.in_ok-watches.watches.items
     os c.loop-at.at) None) c.as_slice-in-loop-at-2.ensures.value
@@ -74,6 +82,7 @@ loop-at-preserved c =
 
 pub returns : goal.returns
 returns c =
-    let past : length c.args.design.now.processes ≤ c.loop-at.at = subst (λ (ps : List Process). length ps ≤ c.loop-at.at) c.as_slice-processes.ensures c.loop-at-test.false in
+    let past : length c.args.design.now.processes ≤ c.loop-at.at =
+    subst (λ (ps : List Process). length ps ≤ c.loop-at.at) c.as_slice-processes.ensures c.loop-at-test.false in
     before_all IsNotPrivate c.args.design.now (length c.args.design.now.processes) c.loop-at.at past (λ q w le. none_private c.args.design.now q w le)
     c.loop-at.invariant

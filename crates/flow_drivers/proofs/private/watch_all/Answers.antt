@@ -25,7 +25,8 @@ not_off false h = absurd (cc h)
 
 pub watch_process-requires : goal.watch_process-requires
 watch_process-requires c =
-    let lt : c.loop-at.at < length c.args.design.now.processes = subst (λ (ps : List Process). c.loop-at.at < length ps) c.as_slice-processes.ensures c.loop-at-test.true in
+    let lt : c.loop-at.at < length c.args.design.now.processes =
+    subst (λ (ps : List Process). c.loop-at.at < length ps) c.as_slice-processes.ensures c.loop-at-test.true in
     let u : AreUsesOf c.args.design.now c.loop-at.at c.index-uses-at.result =
     used_at c.args.design.now c.args.uses.now c.requires.many c.requires.uses c.loop-at.at c.index-uses-at.result lt c.index-uses-at.is in
     within_vars c.args.design.now c.loop-at.at c.index-uses-at.result (length c.as_mut_slice.result.now) (ap length c.as_mut_slice.ensures.value
@@ -34,7 +35,8 @@ watch_process-requires c =
 pub loop-at-preserved : goal.loop-at-preserved
 loop-at-preserved c = elim c.if-lasts.branch [
   | then-lasts w ↦ (
-      let lt : c.loop-at.at < length c.args.design.now.processes = subst (λ (ps : List Process). c.loop-at.at < length ps) c.as_slice-processes.ensures c.loop-at-test.true in
+      let lt : c.loop-at.at < length c.args.design.now.processes =
+      subst (λ (ps : List Process). c.loop-at.at < length ps) c.as_slice-processes.ensures c.loop-at-test.true in
       let u : AreUsesOf c.args.design.now c.loop-at.at w.index-uses-at.result =
       used_at c.args.design.now c.args.uses.now c.requires.many c.requires.uses c.loop-at.at w.index-uses-at.result lt w.index-uses-at.is in
       let k : (get_or c.as_slice-processes.result.now c.loop-at.at c.index-processes-at.result).kind ≡ kind_of c.args.design.now c.loop-at.at =
@@ -52,7 +54,8 @@ loop-at-preserved c = elim c.if-lasts.branch [
       (subst (λ (z : List Watch). HasWatched z w.watch_process.new.watches w.index-uses-at.result c.loop-at.at) w.as_mut_slice.ensures.value
       w.watch_process.ensures))))
   | else-lasts w ↦ (
-      let lt : c.loop-at.at < length c.args.design.now.processes = subst (λ (ps : List Process). c.loop-at.at < length ps) c.as_slice-processes.ensures c.loop-at-test.true in
+      let lt : c.loop-at.at < length c.args.design.now.processes =
+      subst (λ (ps : List Process). c.loop-at.at < length ps) c.as_slice-processes.ensures c.loop-at-test.true in
       let k : (get_or c.as_slice-processes.result.now c.loop-at.at c.index-processes-at.result).kind ≡ kind_of c.args.design.now c.loop-at.at =
       ap (λ (x : Process). x.kind) (sym c.index-processes-at.is) ∙ kind_at c.args.design.now c.loop-at.at c.index-processes-at.result lt
       (subst (λ (ps : List Process). c.index-processes-at.result

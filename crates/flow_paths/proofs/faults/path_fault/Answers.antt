@@ -35,7 +35,8 @@ walk_process-requires-clause-known c =
 
 pub walk_process-requires-clause-body : goal.walk_process-requires-clause-body
 walk_process-requires-clause-body c =
-    let lt : c.loop-at.at < length c.args.design.now.processes = subst (λ (ps : List Process). c.loop-at.at < length ps) c.as_slice-processes.ensures c.loop-at-test.true in
+    let lt : c.loop-at.at < length c.args.design.now.processes =
+    subst (λ (ps : List Process). c.loop-at.at < length ps) c.as_slice-processes.ensures c.loop-at-test.true in
     let state : IsStateOf c.args.design.now c.in_ok-state.state =
     subst (IsStateOf c.args.design.now) (sym c.in_ok-state.ensures) (start_is_state c.args.design.now (variables_of c.args.design.now c.requires.valid)) in
     let is : c.index-processes-at-then-settles.result ≡ get_or c.args.design.now.processes c.loop-at.at c.index-processes-at-then-settles.result =
@@ -47,7 +48,8 @@ walk_process-requires-clause-body c =
 
 pub walk_process-requires-clause-marked : goal.walk_process-requires-clause-marked
 walk_process-requires-clause-marked c =
-    let lt : c.loop-at.at < length c.args.design.now.processes = subst (λ (ps : List Process). c.loop-at.at < length ps) c.as_slice-processes.ensures c.loop-at-test.true in
+    let lt : c.loop-at.at < length c.args.design.now.processes =
+    subst (λ (ps : List Process). c.loop-at.at < length ps) c.as_slice-processes.ensures c.loop-at-test.true in
     let u : AreUsesOf c.args.design.now c.loop-at.at c.index-uses-at.result =
     used_at c.args.design.now c.args.uses.now c.requires.many c.requires.uses c.loop-at.at c.index-uses-at.result lt c.index-uses-at.is in
     record {
@@ -57,7 +59,8 @@ walk_process-requires-clause-marked c =
 
 pub returns-in-Some-clause-fault : goal.returns-in-Some-clause-fault
 returns-in-Some-clause-fault c =
-    let lt : c.loop-at.at < length c.args.design.now.processes = subst (λ (ps : List Process). c.loop-at.at < length ps) c.as_slice-processes.ensures c.loop-at-test.true in
+    let lt : c.loop-at.at < length c.args.design.now.processes =
+    subst (λ (ps : List Process). c.loop-at.at < length ps) c.as_slice-processes.ensures c.loop-at-test.true in
     let u : AreUsesOf c.args.design.now c.loop-at.at c.index-uses-at.result =
     used_at c.args.design.now c.args.uses.now c.requires.many c.requires.uses c.loop-at.at c.index-uses-at.result lt c.index-uses-at.is in
     let k : (get_or c.as_slice-processes.result.now c.loop-at.at c.index-processes-at.result).kind ≡ kind_of c.args.design.now c.loop-at.at =
@@ -69,12 +72,14 @@ returns-in-Some-clause-fault c =
     ≡ get_or ps c.loop-at.at c.index-processes-at-then-settles.result) c.as_slice-processes.ensures c.index-processes-at-then-settles.is in
     let b : c.as_slice-body.result.now ≡ c.index-processes-at-then-settles.result.body = cc (c.as_slice-body.ensures, c.index-processes-at-then-settles.is) in
     let st : settles (kind_of c.args.design.now c.loop-at.at) ≡ true = sym (ap settles k) ∙ sym c.settles.ensures ∙ c.if-settles.true in
-    let walk : IsWalked c.args.design.now.vars c.index-uses-at.result (process_of c.args.design.now c.loop-at.at).body c.walk_process.new.walk c.in_ok-var.field-0 =
+    let walk : IsWalked c.args.design.now.vars c.index-uses-at.result
+    (process_of c.args.design.now c.loop-at.at).body c.walk_process.new.walk c.in_ok-var.field-0 =
     subst (λ xs. IsWalked c.args.design.now.vars c.index-uses-at.result xs c.walk_process.new.walk c.in_ok-var.field-0)
     (b ∙ ap (λ (x : Process). x.body) (get_or_read c.args.design.now.processes c.loop-at.at c.index-processes-at-then-settles.result lt is no_process))
     (subst (λ vs. IsWalked vs c.index-uses-at.result c.as_slice-body.result.now c.walk_process.new.walk c.in_ok-var.field-0) c.as_slice-vars.ensures
     c.in_ok-var.ensures) in
-    let l : IsLeastOf (IsLatch c.args.design.now c.loop-at.at) (Some c.in-Some.var) = latch_is c.args.design.now c.loop-at.at c.index-uses-at.result u st (Some c.in-Some.var)
+    let l : IsLeastOf (IsLatch c.args.design.now c.loop-at.at) (Some c.in-Some.var) =
+    latch_is c.args.design.now c.loop-at.at c.index-uses-at.result u st (Some c.in-Some.var)
     (subst (λ (q : Option ℕ). IsLeastOf (IsKeptIn c.args.design.now.vars c.index-uses-at.result (process_of c.args.design.now c.loop-at.at).body) q)
     c.in-Some.is walk.latch) in
     first_is IsLatch c.args.design.now c.loop-at.at c.in-Some.var c.loop-at.invariant.no_latch l.0 l.1
@@ -82,7 +87,8 @@ returns-in-Some-clause-fault c =
 pub loop-at-preserved : goal.loop-at-preserved
 loop-at-preserved c = elim c.if-settles.branch [
   | then-settles+in_ok-var+in-None w ↦ (
-      let lt : c.loop-at.at < length c.args.design.now.processes = subst (λ (ps : List Process). c.loop-at.at < length ps) c.as_slice-processes.ensures c.loop-at-test.true in
+      let lt : c.loop-at.at < length c.args.design.now.processes =
+      subst (λ (ps : List Process). c.loop-at.at < length ps) c.as_slice-processes.ensures c.loop-at-test.true in
       let u : AreUsesOf c.args.design.now c.loop-at.at w.index-uses-at.result =
       used_at c.args.design.now c.args.uses.now c.requires.many c.requires.uses c.loop-at.at w.index-uses-at.result lt w.index-uses-at.is in
       let k : (get_or c.as_slice-processes.result.now c.loop-at.at c.index-processes-at.result).kind ≡ kind_of c.args.design.now c.loop-at.at =
@@ -94,7 +100,8 @@ loop-at-preserved c = elim c.if-settles.branch [
       ≡ get_or ps c.loop-at.at w.index-processes-at-then-settles.result) c.as_slice-processes.ensures w.index-processes-at-then-settles.is in
       let b : w.as_slice-body.result.now ≡ w.index-processes-at-then-settles.result.body = cc (w.as_slice-body.ensures, w.index-processes-at-then-settles.is) in
       let st : settles (kind_of c.args.design.now c.loop-at.at) ≡ true = sym (ap settles k) ∙ sym c.settles.ensures ∙ w.if-settles.true in
-      let walk : IsWalked c.args.design.now.vars w.index-uses-at.result (process_of c.args.design.now c.loop-at.at).body w.walk_process.new.walk w.in_ok-var.field-0 =
+      let walk : IsWalked c.args.design.now.vars w.index-uses-at.result
+      (process_of c.args.design.now c.loop-at.at).body w.walk_process.new.walk w.in_ok-var.field-0 =
       subst (λ xs. IsWalked c.args.design.now.vars w.index-uses-at.result xs w.walk_process.new.walk w.in_ok-var.field-0)
       (b ∙ ap (λ (x : Process). x.body) (get_or_read c.args.design.now.processes c.loop-at.at w.index-processes-at-then-settles.result lt is no_process))
       (subst (λ vs. IsWalked vs w.index-uses-at.result w.as_slice-body.result.now w.walk_process.new.walk w.in_ok-var.field-0) c.as_slice-vars.ensures
@@ -111,7 +118,8 @@ loop-at-preserved c = elim c.if-settles.branch [
             (λ q. early_is c.args.design.now c.loop-at.at w.index-uses-at.result u q w.walk_process.new.walk.early walk.early));
       }))
   | else-settles w ↦ (
-      let lt : c.loop-at.at < length c.args.design.now.processes = subst (λ (ps : List Process). c.loop-at.at < length ps) c.as_slice-processes.ensures c.loop-at-test.true in
+      let lt : c.loop-at.at < length c.args.design.now.processes =
+      subst (λ (ps : List Process). c.loop-at.at < length ps) c.as_slice-processes.ensures c.loop-at-test.true in
       let k : (get_or c.as_slice-processes.result.now c.loop-at.at c.index-processes-at.result).kind ≡ kind_of c.args.design.now c.loop-at.at =
       ap (λ (x : Process). x.kind) (sym c.index-processes-at.is) ∙ kind_at c.args.design.now c.loop-at.at c.index-processes-at.result lt
       (subst (λ (ps : List Process). c.index-processes-at.result
@@ -126,7 +134,8 @@ loop-at-preserved c = elim c.if-settles.branch [
 
 pub returns-in-None-early-clause-kept : goal.returns-in-None-early-clause-kept
 returns-in-None-early-clause-kept c =
-    let past : length c.args.design.now.processes ≤ c.loop-at.at = subst (λ (ps : List Process). length ps ≤ c.loop-at.at) c.as_slice-processes.ensures c.loop-at-test.false in
+    let past : length c.args.design.now.processes ≤ c.loop-at.at =
+    subst (λ (ps : List Process). length ps ≤ c.loop-at.at) c.as_slice-processes.ensures c.loop-at-test.false in
     record {
       no_latch = before_all IsLatch c.args.design.now (length c.args.design.now.processes) c.loop-at.at past
           (λ q w le. no_latch_past c.args.design.now q w le) c.loop-at.invariant.no_latch;
@@ -137,7 +146,8 @@ returns-in-None-early-clause-kept c =
 
 pub returns-clause-fault : goal.returns-clause-fault
 returns-clause-fault c =
-    let past : length c.args.design.now.processes ≤ c.loop-at.at = subst (λ (ps : List Process). length ps ≤ c.loop-at.at) c.as_slice-processes.ensures c.loop-at-test.false in (
+    let past : length c.args.design.now.processes ≤ c.loop-at.at =
+    subst (λ (ps : List Process). length ps ≤ c.loop-at.at) c.as_slice-processes.ensures c.loop-at-test.false in (
       before_all IsLatch c.args.design.now (length c.args.design.now.processes) c.loop-at.at past (λ q w le. no_latch_past c.args.design.now q w le)
           c.loop-at.invariant.no_latch,
       subst (λ (q : Option Place). IsFirstBefore IsReadBeforeWrite c.args.design.now c.loop-at.at q) c.in-Some-early.is

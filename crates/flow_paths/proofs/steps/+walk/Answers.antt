@@ -231,7 +231,13 @@ walk_step-common-requires-clause-other t c = subst (λ z. AreIn c.taken_in-in-If
 
 pub walk_step-take_all-requires : goal.walk_step-take_all-requires
 walk_step-take_all-requires t c =
-    let ready : IsReady c.args.vars.now c.taken_in-in-If.new.walk = ready_branch c.args.vars.now c.taken_in.new.walk c.taken_in-in-If.new.walk c.in_ok-other-in-If.other.items (always_steps c.as_slice-in-If-2.result.now) (early_steps c.as_slice-in-If-2.result.now) (ready_branch c.args.vars.now c.read_expression.new.walk c.taken_in.new.walk c.in_ok-one-in-If.one.items (always_steps c.as_slice-in-If.result.now) (early_steps c.as_slice-in-If.result.now) (ready_after c.args.vars.now c.args.walk.now c.read_expression.new.walk (λ b. false) (λ b. is_in_any b (reads_of c.in-If.test)) c.requires.ready c.in_ok-read_expression-in-If.ensures) c.in_ok-one-in-If.ensures) c.in_ok-other-in-If.ensures in
+    let ready : IsReady c.args.vars.now c.taken_in-in-If.new.walk =
+    ready_branch c.args.vars.now c.taken_in.new.walk c.taken_in-in-If.new.walk c.in_ok-other-in-If.other.items
+    (always_steps c.as_slice-in-If-2.result.now) (early_steps c.as_slice-in-If-2.result.now)
+    (ready_branch c.args.vars.now c.read_expression.new.walk c.taken_in.new.walk c.in_ok-one-in-If.one.items
+    (always_steps c.as_slice-in-If.result.now) (early_steps c.as_slice-in-If.result.now)
+    (ready_after c.args.vars.now c.args.walk.now c.read_expression.new.walk (λ b. false) (λ b. is_in_any b (reads_of c.in-If.test))
+    c.requires.ready c.in_ok-read_expression-in-If.ensures) c.in_ok-one-in-If.ensures) c.in_ok-other-in-If.ensures in
     subst (λ z. AreIn c.taken_in-in-If.new.walk.left.slots z) (sym c.as_slice-in-If-5.ensures.value)
     (subst (λ (z : List Slot). AreIn z c.in_ok-both-in-If.both.items) (ready.spare ∙ sym ready.left) c.in_ok-both-in-If.ensures.inside)
 

@@ -6,7 +6,9 @@ use Rattle.piece_text.proofs.show.put_number.Goals as goal
 pub put_digits-requires-clause-room : goal.put_digits-requires-clause-room
 put_digits-requires-clause-room c =
     let n = c.args.number in
-    let room = subst (λ b. vec_len c.args.out.now + length (spelled b c.args.base c.args.columns n) ≤ vec_capacity c.args.out.now) c.if-short.true c.requires.room in
+    let room =
+    subst (λ b. vec_len c.args.out.now + length (spelled b c.args.base c.args.columns n) ≤ vec_capacity c.args.out.now) c.if-short.true c.requires.room
+    in
     let k = c.digit_count-count.result in
     omega (arith, room, length_trimmed c.args.base c.args.columns n k c.requires.base c.digit_count-count.ensures)
 
@@ -18,5 +20,7 @@ returns-then-short-clause-items c = rw c.if-short.true
 pub put_digits-requires-2-clause-room : goal.put_digits-requires-2-clause-room
 put_digits-requires-2-clause-room c =
     let n = c.args.number in
-    let room = subst (λ b. vec_len c.args.out.now + length (spelled b c.args.base c.args.columns n) ≤ vec_capacity c.args.out.now) c.if-short.false c.requires.room in
+    let room =
+    subst (λ b. vec_len c.args.out.now + length (spelled b c.args.base c.args.columns n) ≤ vec_capacity c.args.out.now) c.if-short.false
+    c.requires.room in
     omega (arith, room, length-digits c.args.base c.args.columns n)

@@ -21,7 +21,8 @@ keys-preserved c =
     let es = c.args.merged.now in
     let n = c.keys.left - 1 in
     let next : c.keys.left ≡ suc n = omega (arith, c.keys-test.true) in
-    let at : slice_get es n ≡ Some (c.key_at.result.now, c.count_at.result) = pair_at es n c.key_at.result.now c.count_at.result c.key_at.ensures.value c.count_at.ensures in
+    let at : slice_get es n ≡ Some (c.key_at.result.now, c.count_at.result) =
+    pair_at es n c.key_at.result.now c.count_at.result c.key_at.ensures.value c.count_at.ensures in
     record {
       so_far = sorted_step es n (c.key_at.result.now, c.count_at.result) (seen_sorted c.keys.sorted.entries) (seen_sorted c.insert.new.self.entries) at
           (subst (λ (k : ℕ). seen_sorted c.keys.sorted.entries ≡ entries {R = slice_cmp nat_cmp} (from_entries (drop k es))) next c.keys.invariant.so_far)

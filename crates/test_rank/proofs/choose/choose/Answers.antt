@@ -68,7 +68,9 @@ picks-preserved g c =
     let pushed : c.push.new.self ≡ c.picks.picks ++ pick best c.get.result ∷ [] = c.in_ok-push.ensures.ok in
     let tests = step-tests c.picks.picks c.push.new.self best c.get.result pushed in
     let given : best < length covers = let l = c.greatest-best.ensures.given in let len = inv.len in omega arith in
-    let comes = comes-next covers (tests_of c.picks.picks) (marked c.picks.covered) c.picks.gains best inv.covered inv.gains given c.greatest-best.ensures.most c.greatest-best.ensures.earliest (some g c) in
+    let comes =
+    comes-next covers (tests_of c.picks.picks) (marked c.picks.covered) c.picks.gains best inv.covered inv.gains given c.greatest-best.ensures.most
+    c.greatest-best.ensures.earliest (some g c) in
     let one : length c.push.new.self ≡ length c.picks.picks + 1 = grind (arith, common_steps) in
     record {
       gains = c.cover.ensures.gains;

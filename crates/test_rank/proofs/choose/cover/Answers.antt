@@ -15,13 +15,17 @@ has-room points covered now k room is all h = all (get_or points k 0) (subst (λ
 
 pub has-requires : goal.has-requires
 has-requires g c =
-    let room = has-room c.points_of-points.result.now [] (points_of c.args.covers.now c.args.test) c.points.point-index (length c.args.covered.now) c.points_of-points.ensures (c.requires.room c.args.test) c.points-test.true in
+    let room =
+    has-room c.points_of-points.result.now [] (points_of c.args.covers.now c.args.test) c.points.point-index (length c.args.covered.now)
+    c.points_of-points.ensures (c.requires.room c.args.test) c.points-test.true in
     let len = c.points.invariant.room in
     omega arith
 
 pub mark-requires : goal.mark-requires
 mark-requires g c =
-    let room = has-room c.points_of-points.result.now [] (points_of c.args.covers.now c.args.test) c.points.point-index (length c.args.covered.now) c.points_of-points.ensures (c.requires.room c.args.test) c.points-test.true in
+    let room =
+    has-room c.points_of-points.result.now [] (points_of c.args.covers.now c.args.test) c.points.point-index (length c.args.covered.now)
+    c.points_of-points.ensures (c.requires.room c.args.test) c.points-test.true in
     let len = c.points.invariant.room in
     omega arith
 

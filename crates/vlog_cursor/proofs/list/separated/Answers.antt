@@ -7,5 +7,7 @@ use Rattle.vlog_cursor.proofs.list.separated.Goals as goal
 pub loop-turn-preserved : goal.loop-turn-preserved
 unfolding separated_from
 loop-turn-preserved g c =
-    let e = one_more (λ n. separated_from (g.R.Rule.reads c.args.rule.now) n c.loop-turn.found c.loop-turn.tokens) _ c.loop-turn._turn c.loop-turn-test.true c.loop-turn.invariant in
+    let e =
+    one_more (λ n. separated_from (g.R.Rule.reads c.args.rule.now) n c.loop-turn.found c.loop-turn.tokens) _ c.loop-turn._turn c.loop-turn-test.true
+    c.loop-turn.invariant in
     first_of (search rules, grind (arith, common_steps))

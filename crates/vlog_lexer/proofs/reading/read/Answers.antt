@@ -48,8 +48,10 @@ loop-at-preserved c =
     let some = c.in-Ok.ensures.within.0 in
     let told = c.in-Ok-add.ensures in
     let short = take_short len (take (length text - at) (drop at text)) in
-    let lines : c.after-position.result.line ≤ c.loop-at.position.line + length (take len (take (length text - at) (drop at text))) = c.after-position.ensures.line in
-    let columns : c.after-position.result.column ≤ c.loop-at.position.column + length (take len (take (length text - at) (drop at text))) = c.after-position.ensures.column in
+    let lines : c.after-position.result.line ≤ c.loop-at.position.line + length (take len (take (length text - at) (drop at text))) =
+    c.after-position.ensures.line in
+    let columns : c.after-position.result.column ≤ c.loop-at.position.column + length (take len (take (length text - at) (drop at text))) =
+    c.after-position.ensures.column in
     record {
       within = omega arith;
       line = omega arith;

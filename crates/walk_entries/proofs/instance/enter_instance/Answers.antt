@@ -16,7 +16,16 @@ pub returns : goal.returns
 returns c = λ design here behind place p one values under is are lefts item its_path given found fresh.
     let old = c.args.walk.now in
     let by = c.args.by in
-    let new : Walk = record { next = old.next + 1; here = c.replace-around.new.dest; names = c.replace-names.new.dest; above = c.enter.new.self; left = c.push-2.new.self; records = c.record_instance.new.records } in
+    let new : Walk =
+    record {
+      next = old.next + 1;
+      here = c.replace-around.new.dest;
+      names = c.replace-names.new.dest;
+      above = c.enter.new.self;
+      left =
+          c.push-2.new.self;
+      records = c.record_instance.new.records;
+    } in
     has_instance p one values by.of c.as_slice-items.result old new by.number by.item c.args.path refl
     (subst (λ (q : ScopePlace). IsAt (instance_scope here old.next one values by.number by.of.now) (start old.next 0) q) (sym c.replace-around.ensures.after)
     (subst (λ (text : List ℕ). IsAt (module_scope old.next text here.above values by.number by.of.now) (start old.next 0) c.place_in-place.result) its_path

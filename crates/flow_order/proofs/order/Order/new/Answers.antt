@@ -9,7 +9,8 @@ use Rattle.flow_order.proofs.order.Order.new.Goals as goal
 
 pub kept_reads-requires : goal.kept_reads-requires
 kept_reads-requires c =
-    let lt : c.loop-at.at < length c.args.design.now.processes = subst (λ (ps : List Process). c.loop-at.at < length ps) c.as_slice-all.ensures c.loop-at-test.true in
+    let lt : c.loop-at.at < length c.args.design.now.processes =
+    subst (λ (ps : List Process). c.loop-at.at < length ps) c.as_slice-all.ensures c.loop-at-test.true in
     let is : c.index-uses-at.result ≡ get_or c.args.uses.now c.loop-at.at no_uses =
     get_or_read c.args.uses.now c.loop-at.at c.index-uses-at.result (omega (arith, lt, c.requires.many)) c.index-uses-at.is no_uses in
     let uses : AreUsesOf c.args.design.now c.loop-at.at c.index-uses-at.result =

@@ -6,7 +6,9 @@ pub returns-in-Err-clause-fault : goal.returns-in-Err-clause-fault
 returns-in-Err-clause-fault c =
     let cut = c.cut_line-cut.result in
     let at = c.lines.self-inside in
-    let p = text-refused at.number at.bytes c.line_bytes.result at.rest.now cut.rest.now cut.line.now cut.ended c.in-Err.fault c.cut_line-cut.ensures.lines c.line_bytes.ensures.value
+    let p =
+    text-refused at.number at.bytes c.line_bytes.result at.rest.now cut.rest.now cut.line.now cut.ended c.in-Err.fault c.cut_line-cut.ensures.lines
+    c.line_bytes.ensures.value
     (c.in-Err.ensures.says cut.ended) in
     rw (← c.self.view_is) (p.0, sym c.lines.invariant.left ∙ p.1)
 

@@ -1,0 +1,7 @@
+use crate::fault::LexFault;
+use cov_types::crosses_threads;
+
+/// The faults of this crate cross threads.
+fn faults_cross_threads() {
+    crosses_threads::<LexFault>();
+}
