@@ -1,5 +1,6 @@
 -- Toggle entries word by word.
-use Rattle.std.proofs.Common.{◌≡◌, ◌∙◌, sym, ap, subst, refl, ℕ, zero, suc, ◌+◌, ◌-◌, ◌<◌, ◌≤◌, ◌^◌, ◌==◌, Bool, true, false, cond, not, List, [], ◌∷◌, ◌++◌, filter}
+use Rattle.std.proofs.Common.{◌≡◌, ◌∙◌, sym, ap, subst, refl, ℕ, zero, suc, ◌+◌, ◌-◌, ◌<◌, ◌≤◌, ◌^◌, ◌==◌, Bool, true, false}
+use Rattle.std.proofs.Common.{cond, not, List, [], ◌∷◌, ◌++◌, filter}
 use Rattle.std.proofs.Common.{length, map, take, drop, bit_xor, ◌%◌, ◌≢◌, arith}
 use Rattle.std.specs.Prelude.{Some, slice_index, slice_index_or, slice_range}
 use Rattle.std.specs.Int.{bit_at}

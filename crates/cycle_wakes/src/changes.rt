@@ -64,6 +64,7 @@ impl Changes {
         ensures from { from ≤ result }
         ensures end { result ≤ end }
         ensures between { (k : ℕ) → from ≤ k → k < result → is_marked self.now.places k ≡ false }
+        ensures marked { result < end → is_marked self.now.places result ≡ true }
     {
         self.places.next_before(from, end)
     }

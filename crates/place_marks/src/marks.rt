@@ -1,4 +1,4 @@
-ghost use Rattle.std.specs.Prelude.{◌≡◌, ℕ, ◌<◌, ◌≤◌, ◌*◌, ◌==◌, ◌||◌, None, false, IfOk, IfSome, length};
+ghost use Rattle.std.specs.Prelude.{◌≡◌, ℕ, ◌<◌, ◌≤◌, ◌*◌, ◌==◌, ◌||◌, None, true, false, IfOk, IfSome, length};
 ghost use Rattle.std.specs.Int.{bit_at};
 ghost use Rattle.place_marks.specs.Marked.{IsNext, NoneFrom, is_marked, is_one};
 
@@ -86,6 +86,7 @@ impl PlaceMarks {
         ensures from { from ≤ result }
         ensures end { result ≤ end }
         ensures between { (k : ℕ) → from ≤ k → k < result → is_marked self.now k ≡ false }
+        ensures marked { result < end → is_marked self.now result ≡ true }
     {
         match self.next(from) {
             Some(at) => at.min(end),

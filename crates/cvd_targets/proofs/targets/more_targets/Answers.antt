@@ -12,7 +12,8 @@ use Rattle.cvd_targets.proofs.targets.more_targets.Goals as goal
 pub loop-left-init : goal.loop-left-init
 loop-left-init c =
     at_first Target (Unit {0}) (each_tokens target_tokens) unchanged
-    (λ xs. SoFar (with_vars c.args.vars.now) c.args.kind xs true (record { items = c.in_ok-items.items; width = 0; nodes = 0 })) tt c.args.cursor.now c.args.turns
+    (λ xs. SoFar (with_vars c.args.vars.now) c.args.kind xs true (record { items = c.in_ok-items.items; width = 0; nodes = 0 })) tt c.args.cursor.now
+    c.args.turns
     (none_yet (with_vars c.args.vars.now) c.args.kind _ c.in_ok-items.ensures)
 
 pub returns-in_err-one : goal.returns-in_err-one

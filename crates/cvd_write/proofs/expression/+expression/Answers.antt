@@ -29,7 +29,8 @@ position-returns t c =
 
 pub expression-returns-in-Number : goal.expression-returns-in-Number
 expression-returns-in-Number t c =
-    put_as _ _ _ _ _ (ap tokens_of c.in-Number.is ∙ folds.fold-Number A Position node_tokens index_tokens c.in-Number.width c.in-Number.value) c.constant.ensures
+    put_as _ _ _ _ _ (ap tokens_of c.in-Number.is ∙ folds.fold-Number A Position node_tokens index_tokens c.in-Number.width c.in-Number.value)
+    c.constant.ensures
 
 pub expression-returns-in-Var : goal.expression-returns-in-Var
 expression-returns-in-Var t c =

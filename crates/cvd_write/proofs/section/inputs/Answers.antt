@@ -6,4 +6,5 @@ use Rattle.cvd_write.proofs.section.inputs.Goals as goal
 pub returns : goal.returns
 returns c =
     let things = c.args.things.now in
-    behind _ (heading_row (codes "inputs") (length things)) (flat_map input_row things) c.numbered_line.new.out _ _ c.in_ok-numbered_line.ensures c.all_inputs.ensures
+    behind _ (heading_row (codes "inputs") (length things)) (flat_map input_row things) c.numbered_line.new.out _ _
+    c.in_ok-numbered_line.ensures c.all_inputs.ensures

@@ -6,4 +6,5 @@ use Rattle.cvd_write.proofs.section.processes.Goals as goal
 pub returns : goal.returns
 returns c =
     let things = c.args.things.now in
-    behind _ (heading_row (codes "processes") (length things)) (flat_map process_text things) c.numbered_line.new.out _ _ c.in_ok-numbered_line.ensures c.all_processes.ensures
+    behind _ (heading_row (codes "processes") (length things)) (flat_map process_text things) c.numbered_line.new.out _ _
+    c.in_ok-numbered_line.ensures c.all_processes.ensures

@@ -6,4 +6,5 @@ use Rattle.cvd_write.proofs.section.toggles.Goals as goal
 pub returns : goal.returns
 returns c =
     let things = c.args.things.now in
-    behind _ (heading_row (codes "toggles") (length things)) (flat_map toggle_row things) c.numbered_line.new.out _ _ c.in_ok-numbered_line.ensures c.all_toggles.ensures
+    behind _ (heading_row (codes "toggles") (length things)) (flat_map toggle_row things) c.numbered_line.new.out _ _
+    c.in_ok-numbered_line.ensures c.all_toggles.ensures
