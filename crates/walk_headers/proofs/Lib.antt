@@ -1,0 +1,2 @@
+pub mod HeaderItems
+pub mod PortRows
