@@ -1,3 +1,4 @@
 mod Meanings
 mod Tables
-mod Places
+pub mod Places
+mod More

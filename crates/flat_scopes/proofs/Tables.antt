@@ -61,6 +61,7 @@ pub framed : (f : Frame) (number : ℕ) (names : List KindOfName) (genvar : Opti
 framed f number names genvar s table same counted empty numbered named is none = record {
   number = sym numbered;
   within = omega arith;
+  counted = λ q c e. let none : None ≡ Some c = sym (empty q) ∙ e in cc;
   declared = λ q. table q ∙ ap (λ (ds : List KindOfName). kind_in (find (λ (e : KindOfName). bytes_eq q e.name) ds)) (sym named) ∙ find-seen q f.declared;
   genvar = subst (IsGenvar f.genvar) (sym same) is;
   known = λ q. subst (λ (cs : List Constant). IsValueIn (find (λ (c : Constant). bytes_eq q c.name) cs) (visible 0 (value_of s.known q))) (sym none)

@@ -5,7 +5,7 @@ ghost use Rattle.scope_meaning.specs.Scope.{Frame};
 ghost use Rattle.elab_names.specs.Frames.{IsGenvar, IsValue};
 ghost use Rattle.flat_declared.specs.Kinds.{seen};
 ghost use Rattle.flat_scopes.specs.Said as spec;
-ghost use Rattle.flat_scopes.specs.Frames.{IsFrameAt, IsTableOf};
+ghost use Rattle.flat_scopes.specs.Frames.{IsFrameAt, IsTableOf, HasOneMore};
 
 use crate::place::PlaceInScope;
 use cov_types::NoMemory;
@@ -106,6 +106,25 @@ impl SeenScope {
             count: 0,
             outer,
         })
+    }
+
+    /// Makes one more constant known, behind all others; the first value of a name stays.
+    pub(crate) fn make_known(
+        &mut self,
+        alloc: Global,
+        name: &[u8],
+        value: ConstantValue,
+    ) -> Result<(), NoMemory>
+        ensures { OnOk result (HasOneMore name.now value self.old self.new) }
+    {
+        let Some(count) = self.count.checked_add(1) else {
+            return Err(NoMemory);
+        };
+        let before = self.count;
+        self.known
+            .put(alloc, name, KnownConstant { before, value })?;
+        self.count = count;
+        Ok(())
     }
 
     /// What a name means in the scope itself, seen from a place; none where it is looked for outside.

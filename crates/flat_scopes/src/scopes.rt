@@ -1,13 +1,15 @@
-ghost use Rattle.std.specs.Prelude.{◌≡◌, List, [], ◌∷◌, length, map, OnOk};
+ghost use Rattle.std.specs.Prelude.{◌≡◌, ◌+◌, ◌++◌, ℕ, List, [], ◌∷◌, length, map, OnOk};
 ghost use Rattle.scope_meaning.specs.Scope.{Frame, meaning_of};
-ghost use Rattle.elab_names.specs.Frames.{IsGenvar};
+ghost use Rattle.scope_meaning.specs.Constants.{Constant};
+ghost use Rattle.elab_names.specs.Frames.{IsGenvar, IsValue};
 ghost use Rattle.flat_declared.specs.Kinds.{seen};
-ghost use Rattle.flat_scopes.specs.Frames.{AreFramesAt, AreOutside, Means};
+ghost use Rattle.flat_scopes.specs.Frames.{AreFramesAt, AreOutside, Means, IsLast};
 ghost use Rattle.flat_scopes.specs.Meanings.{meaning_by, in_scope, outside_by};
 
 use crate::place::PlaceInScope;
 use crate::scope::{NameMeaning, SeenScope};
 use cov_types::NoMemory;
+use elab_constants::ConstantValue;
 use elab_names::PassGenvar;
 use flat_declared::KindOfName;
 use std::alloc::Global;
@@ -93,6 +95,29 @@ impl SeenScopes {
         let scope = SeenScope::new(alloc, declared, genvar, outer)?;
         self.scopes.push(scope)?;
         Ok(())
+    }
+
+    /// Makes a constant of a scope known behind all its constants so far. A scope that isn't entered is want of memory.
+    pub fn make_known(
+        &mut self,
+        alloc: Global,
+        scope: u32,
+        name: &[u8],
+        value: ConstantValue,
+    ) -> Result<(), NoMemory>
+        ensures before { OnOk result ((at : PlaceInScope) (fs : List Frame) → AreFramesAt self.old.scopes.items at fs
+            → AreFramesAt self.new.scopes.items at fs) }
+        ensures known { OnOk result ((f : Frame) (fs : List Frame) (k : ℕ) (c : Constant) → AreFramesAt self.old.scopes.items
+            (record { scope = scope; known = k }) (f ∷ fs)
+            → IsLast self.old.scopes.items scope k → c.name ≡ name.now → IsValue c value
+            → AreFramesAt self.new.scopes.items (record { scope = scope; known = k + 1 }) (record f { known = f.known ++ c ∷ [] } ∷ fs)) }
+    {
+        let at = scope as usize;
+        let count = self.scopes.len();
+        if at >= count {
+            return Err(NoMemory);
+        }
+        self.scopes[at].make_known(alloc, name, value)
     }
 
     /// What a name means at a place; none where it means nothing.
