@@ -1,0 +1,7 @@
+//! What the rules of a flat source ask of names.
+#![tactic(auto)]
+
+mod asking;
+mod meant;
+
+pub use asking::{Asked, Asking};

@@ -1,0 +1,3 @@
+mod Induction
+mod Same
+mod Nodes

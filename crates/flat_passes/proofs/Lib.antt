@@ -1,0 +1,4 @@
+pub mod Readings
+pub mod Constants
+pub mod Sequences
+pub mod Turns

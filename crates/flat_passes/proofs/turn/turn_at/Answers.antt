@@ -1,0 +1,15 @@
+use Rattle.std.proofs.Common.{sym, ◌∙◌}
+use Rattle.source_meaning.specs.Environment.{in_pass}
+use Rattle.flat_source_meaning.specs.FixedParts.{is_constant}
+use Rattle.flat_passes.specs.Turns.{loop_of, test_at}
+use Rattle.flat_passes.proofs.Constants.{says_some}
+use Rattle.flat_passes.proofs.Turns.{is_turn}
+use Rattle.flat_passes.proofs.turn.turn_at.Goals as goal
+
+pub returns-then-holds : goal.returns-then-holds
+returns-then-holds g c = λ step_name body.
+    let env = g.N.Names.environment c.args.names.now in
+    let l = loop_of c.args.head step_name body in
+    let h = says_some (is_constant (in_pass env l.name c.args.value) l.test) (test_at env l c.args.value) c.in_ok-holds.field-0 c.in-Some.holds c.in-Some.is
+    c.in_ok-holds.ensures in
+    is_turn env l c.args.value c.next_turn.result h.0 (sym h.1 ∙ c.if-holds.true) (c.next_turn.ensures step_name body)
