@@ -1,0 +1,4 @@
+pub mod Faults
+pub mod Joins
+pub mod Operators
+pub mod Reads
