@@ -49,6 +49,7 @@ module _ (p : Process) (old new : List ArmRow) where
 pub all_rows : (d : Design) (rows : List ArmRow)
     → Adds (total (map arms_of_process d.processes)) (flat_map sorts_of_process d.processes) (forks_from 0 d.processes) [] rows → AreRowsOf d rows
 all_rows d rows a = record {
+  many = ap length a.rows ∙ a.many;
   sorts_are = ap (map sort_of) a.rows ∙ a.sorts_are;
   no_arms = λ n around y lt is. a.no_arms n around y (omega arith) lt is;
 }

@@ -3,6 +3,7 @@ use Rattle.std.specs.Prelude.{◌≡◌, ℕ, ◌+◌, ◌<◌, ◌≤◌, Bool,
 use Rattle.design_tree.specs.declared.step.StepArm.{StepArm, fold-StepArm}
 use Rattle.design_tree.specs.declared.design.Process.{Process}
 use Rattle.design_tree.specs.declared.design.Design.{Design}
+use Rattle.circuit_run.specs.Lists.{total}
 use Rattle.counted_circuit.specs.Sorts as sort
 use Rattle.counted_circuit.specs.Sorts.{Sort}
 use Rattle.counted_circuit.specs.Circuits.{arms_in}
@@ -52,11 +53,6 @@ pub record Adds (arms : ℕ) (sorts : List Sort) (forks : List Fork) (old new : 
   pub sorts_are : map sort_of added ≡ sorts
   pub no_arms : (n around y : ℕ) → length old ≤ n → n < length new → row_at new n ≡ row.No around y → IsNoArm forks new n around y
 
--- the rows of a design, one for each arm
-pub record AreRowsOf (d : Design) (rows : List ArmRow) : Type 0 where
-  pub sorts_are : map sort_of rows ≡ sort.arms_in d
-  pub no_arms : (n around y : ℕ) → n < length rows → row_at rows n ≡ row.No around y → IsNoArm (forks_in d) rows n around y
-
 -- the sorts of the arms in an arm of a `case`, itself first
 abbrev pub sorts_of_arm : StepArm → List Sort
 sorts_of_arm = fold-StepArm (List Sort) (List Sort) sort.step_sorts sort.arm_sorts
@@ -67,3 +63,9 @@ arms_of_process p = arms_in p.kind p.body
 
 abbrev pub sorts_of_process : Process → List Sort
 sorts_of_process p = sort.process_sorts p.kind p.body
+
+-- the rows of a design, one for each arm
+pub record AreRowsOf (d : Design) (rows : List ArmRow) : Type 0 where
+  pub many : length rows ≡ total (map arms_of_process d.processes)
+  pub sorts_are : map sort_of rows ≡ sort.arms_in d
+  pub no_arms : (n around y : ℕ) → n < length rows → row_at rows n ≡ row.No around y → IsNoArm (forks_in d) rows n around y

@@ -1,0 +1,3 @@
+pub mod ArmLists
+pub mod BitMarks
+pub mod Putting
