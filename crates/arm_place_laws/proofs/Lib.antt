@@ -1,0 +1,11 @@
+mod Ends
+mod Past
+mod PastItems
+mod Told
+mod StatementArms
+mod ItemArms
+mod ModuleArms
+mod Seen
+mod CopyArms
+mod ProcessArms
+mod SourceArms
